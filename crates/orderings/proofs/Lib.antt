@@ -1,0 +1,4 @@
+pub mod Positions
+pub mod Exponents
+pub mod Lines
+pub mod Compared

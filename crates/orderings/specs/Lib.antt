@@ -1,0 +1,5 @@
+pub mod Order
+pub mod Fit
+pub mod Answer
+pub mod Compare
+pub mod Stands

@@ -1,0 +1,3 @@
+// Tests of the engine's crates, in a crate of their own.
+#[cfg(test)]
+mod comparing;
