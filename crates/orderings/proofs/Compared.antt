@@ -14,25 +14,9 @@ use Rattle.orderings.specs.Order.{VariableCount, IsOrdering, Below}
 use Rattle.orderings.specs.declared.comparing.Comparison.{Comparison}
 use Rattle.orderings.specs.declared.comparing.Comparison.the-variants as case
 use Rattle.orderings.specs.Stands.{StandsAs}
+use Rattle.orderings.proofs.Judging.{judged-alike, judged-once}
 use Rattle.orderings.proofs.Positions.{few}
 use Rattle.orderings.proofs.Lines.{irreflexive, asymmetric, same-shown}
-
-module _ {O : Type 0} (refuse : ℕ → O) (G H : O → Type 0) where
-  -- two outcomes of the same checks: both by one refusal, or both granted
-  pub judged-alike : (cs : List Check) (a b : O) → Judged refuse cs G a → Judged refuse cs H b → ((r : ℕ) × (a ≡ refuse r) × (b ≡ refuse r)) ⊎ (G a × H b)
-  judged-alike [] a b x y = inr (x, y)
-  judged-alike (c ∷ cs) a b (inl x) (inl y) = inl (c .number, x .1, y .1)
-  judged-alike (c ∷ cs) a b (inl x) (inr y) = absurd (x .0 (y .0))
-  judged-alike (c ∷ cs) a b (inr x) (inl y) = absurd (y .0 (x .0))
-  judged-alike (c ∷ cs) a b (inr x) (inr y) = judged-alike cs a b (x .1) (y .1)
-
--- where a grant has one outcome, the checks and the grant have one
-pub judged-once : {O : Type 0} (refuse : ℕ → O) (G : O → Type 0) → ((a b : O) → G a → G b → a ≡ b) → (cs : List Check) (a b : O) →
-    Judged refuse cs G a → Judged refuse cs G b → a ≡ b
-judged-once refuse G once cs a b x y = elim (judged-alike refuse G G cs a b x y) [
-  | inl r ↦ r .1 ∙ sym (r .2)
-  | inr g ↦ once a b (g .0) (g .1)
-]
 
 stands-once : (order : List ℕ) (u w : Shown) (a b : Answer) → Stands order u w a → Stands order u w b → a ≡ b
 stands-once order u w _ _ (below x) (below y) = refl

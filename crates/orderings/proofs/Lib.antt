@@ -1,4 +1,5 @@
 pub mod Positions
 pub mod Exponents
+pub mod Judging
 pub mod Lines
 pub mod Compared

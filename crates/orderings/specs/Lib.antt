@@ -3,3 +3,4 @@ pub mod Fit
 pub mod Answer
 pub mod Compare
 pub mod Stands
+pub mod Rows

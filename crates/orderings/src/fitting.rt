@@ -16,7 +16,8 @@ pub fn is_admitted<E: Element>(element: &E, n: u8) -> bool
     }
     let exponents = element.exponents();
     for v in 1..=8 {
-        if v > n && exponent_of(&exponents, v) > 0 {
+        let exponent = exponent_of(&exponents, v);
+        if v > n && exponent > 0 {
             return false;
         }
     }

@@ -1,6 +1,5 @@
 // The set x1^3, x1 x2, x2^2: which divides which, and how they compare.
 use crate::names::*;
-use elements::Element;
 use elements::PlainTerm;
 use elements::PlainTermElement;
 use elements::quotient;
@@ -9,23 +8,17 @@ use orderings::comparing::Comparison;
 use orderings::comparing::compare;
 use std::io;
 
-// The term with these exponents of x1 and x2.
-fn term(x1: u16, x2: u16) -> PlainTerm {
-    PlainTermElement::make(0, [x1, x2, 0, 0, 0, 0, 0, 0])
-}
-
-pub(crate) fn tell(rt: &LibcRuntime) -> io::Result<()> {
-    let set = [term(3, 0), term(1, 1), term(0, 2)];
+pub(crate) fn tell(rt: &LibcRuntime, set: &[PlainTerm; 3]) -> io::Result<()> {
     let (a, b, c) = (Named(&set[0]), Named(&set[1]), Named(&set[2]));
     println!(rt, "A set of three terms in 2 variables: {a}, {b}, {c}.")?;
     println!(rt)?;
-    tell_divisors(rt, &set)?;
+    tell_divisors(rt, set)?;
     println!(rt)?;
-    tell_product(rt, &set)?;
+    tell_product(rt, set)?;
     println!(rt)?;
-    tell_order(rt, &set, &[1, 2, 0, 0, 0, 0, 0, 0])?;
+    tell_order(rt, set, &[1, 2, 0, 0, 0, 0, 0, 0])?;
     println!(rt)?;
-    tell_order(rt, &set, &[2, 1, 0, 0, 0, 0, 0, 0])?;
+    tell_order(rt, set, &[2, 1, 0, 0, 0, 0, 0, 0])?;
     println!(rt)?;
     tell_order(rt, &set[0..2], &[1, 1, 0, 0, 0, 0, 0, 0])
 }

@@ -1,3 +1,5 @@
 // Tests of the engine's crates, in a crate of their own.
 #[cfg(test)]
 mod comparing;
+#[cfg(test)]
+mod editing;

@@ -4,4 +4,5 @@ use Rattle.elements.specs.Element.{entry}
 use Rattle.orderings.proofs.fitting.is_admitted.Given as given
 
 abbrev pub Inv-loop-v : given.InvT-loop-v
-Inv-loop-v g l = (x : ℕ) → 1 ≤ x → x < l .v → l .n < x → entry (l .exponents) x ≡ 0
+Inv-loop-v g l =
+    (x : ℕ) → 1 ≤ x → x < l .v → (entry (l .exponents) x ≤ 65535) × (l .n < x → entry (l .exponents) x ≡ 0)

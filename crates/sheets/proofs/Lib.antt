@@ -1,0 +1,5 @@
+pub mod Tables
+pub mod Rows
+pub mod Natural
+pub mod Steps
+pub mod Whole

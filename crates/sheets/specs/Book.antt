@@ -1,0 +1,88 @@
+-- The plain book that a sheet is read as, and what calls do to it. Assumes nothing.
+use mathlib.Core.Path.{_≡_}
+use mathlib.Core.Bool.{Bool}
+use mathlib.Core.List.{List, [], _∷_, _++_}
+use Prim.Native.Nat.{ℕ, _<_}
+use lib.ListN.{length}
+use Rattle.std.specs.declared.option.Option.{Option}
+use Rattle.std.specs.shelf.Lists.{Has}
+use Rattle.elements.specs.Element.{Shown}
+use Rattle.orderings.specs.Answer.{Answer, granted, Check, check, Judged, Answers}
+use Rattle.orderings.specs.Fit.{Fit}
+use Rattle.orderings.specs.Order.{VariableCount, IsOrdering}
+use Rattle.sheets.specs.Sheet.{PlaceCount, natural-order}
+
+-- what a division means: from the rows, an ordering, the place of a row and a variable to the limit, if there is one
+abbrev pub Meaning : Type 0
+Meaning = List Shown → List ℕ → ℕ → ℕ → Option ℕ
+
+pub data State : Type 0 where
+  opened : State
+  settledBy : Meaning → State
+
+-- the kind by the families that it admits, the variable count, the number of places, the rows from place 0 on, the ordering and the state
+pub record Book : Type 0 where
+  pub admits : ℕ → Bool
+  pub n : ℕ
+  pub places : ℕ
+  pub rows : List Shown
+  pub order : List ℕ
+  pub state : State
+
+-- a call with what it is handed
+pub data Call : Type 0 where
+  insert : Shown → Call
+  withdraw : Shown → Call
+  arrange : List ℕ → Call
+
+-- the calls that a state takes
+abbrev pub Takes : State → Call → Type 0
+Takes opened (insert e) = Unit {0}
+Takes opened (withdraw e) = Unit {0}
+Takes opened (arrange o) = Unit {0}
+Takes (settledBy m) (insert e) = ⊥
+Takes (settledBy m) (withdraw e) = ⊥
+Takes (settledBy m) (arrange o) = ⊥
+
+-- what a call asks of what it is handed and of the book, in the order of the refusals
+abbrev pub asks : Book → Call → List Check
+asks b (insert e) = check 9 (Fit (b .admits) (b .n) e) ∷ check 13 (Has (b .rows) e → ⊥) ∷ check 14 (length (b .rows) < b .places) ∷ []
+asks b (withdraw e) = check 9 (Fit (b .admits) (b .n) e) ∷ check 15 (Has (b .rows) e) ∷ []
+asks b (arrange o) = check 11 (IsOrdering (b .n) o) ∷ []
+
+abbrev pub checks : Book → Call → List Check
+checks b call = check 3 (Takes (b .state) call) ∷ asks b call
+
+abbrev pub with-rows : Book → List Shown → Book
+with-rows b rows = record { admits = b .admits; n = b .n; places = b .places; rows = rows; order = b .order; state = b .state }
+
+abbrev pub with-order : Book → List ℕ → Book
+with-order b order = record { admits = b .admits; n = b .n; places = b .places; rows = b .rows; order = order; state = b .state }
+
+-- what a call that is not refused makes of the book
+abbrev pub Becomes : Book → Call → Book → Type 0
+Becomes b (insert e) c = c ≡ with-rows b (b .rows ++ e ∷ [])
+Becomes b (withdraw e) c = (front : List Shown) × (back : List Shown) × (b .rows ≡ front ++ e ∷ back) × (c ≡ with-rows b (front ++ back))
+Becomes b (arrange o) c = c ≡ with-order b o
+
+-- what a call that is not refused answers
+abbrev pub Tells : Book → Call → Answer → Type 0
+Tells b (insert e) a = a ≡ granted (length (b .rows) ∷ [])
+Tells b (withdraw e) a = a ≡ granted []
+Tells b (arrange o) a = a ≡ granted []
+
+-- the book after a call: a refused call changes nothing
+abbrev pub Follows : Book → Call → Book → Type 0
+Follows b call c = Judged (λ _. b) (checks b call) (Becomes b call) c
+
+-- the answer to a call
+abbrev pub Answered : Book → Call → Answer → Type 0
+Answered b call a = Answers (checks b call) (Tells b call) a
+
+-- the book of a sheet that was just opened
+abbrev pub fresh : (ℕ → Bool) → ℕ → ℕ → Book
+fresh admits n places = record { admits = admits; n = n; places = places; rows = []; order = natural-order n; state = opened }
+
+-- what open asks: the variable count, the number of places, eight order bytes
+abbrev pub open-asks : ℕ → ℕ → ℕ → List Check
+open-asks n places bytes = check 5 (VariableCount n) ∷ check 6 (PlaceCount places) ∷ check 7 (bytes ≡ 8) ∷ []

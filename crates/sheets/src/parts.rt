@@ -1,0 +1,30 @@
+// The parts of a sheet, and the sheet that is open to edits. A caller may build parts with any content.
+use orderings::refusals::Refusal;
+
+// How many variables there are, and how many rows.
+#[derive(Clone, Copy)]
+pub struct Header {
+    pub variables: u8,
+    pub rows: u8,
+}
+
+// The table of places, the order bytes and the header.
+#[derive(Drop)]
+pub struct Parts<E> {
+    pub table: Vec<E>,
+    pub order: Vec<u8>,
+    pub header: Header,
+}
+
+// A sheet that takes edits.
+#[derive(Drop)]
+pub struct OpenSheet<E> {
+    pub parts: Parts<E>,
+}
+
+// What was handed to a refused call, and why it was refused.
+#[derive(Drop)]
+pub struct Denied<T> {
+    pub back: T,
+    pub why: Refusal,
+}
