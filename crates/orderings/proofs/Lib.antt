@@ -3,3 +3,4 @@ pub mod Exponents
 pub mod Judging
 pub mod Lines
 pub mod Compared
+pub mod Places

@@ -33,6 +33,12 @@ Each-variable-stands-once =
 abbrev pub Agree : List ℕ → ℕ → Shown → Shown → Type 0
 Agree order k u w = (j : ℕ) → j < k → exponent u (at order j) ≡ exponent w (at order j)
 
+-- position k of the list is the first at which u and w differ
+pub record DifferAt (order : List ℕ) (k : ℕ) (u w : Shown) : Type 0 where
+  pub inside : k < length order
+  pub above : Agree order k u w
+  pub here : exponent u (at order k) ≡ exponent w (at order k) → ⊥
+
 -- u and w, of one family, part at position k: the greatest variable in which they differ stands there, and u has the smaller exponent
 pub record PartAt (order : List ℕ) (k : ℕ) (u w : Shown) : Type 0 where
   pub family : u .family ≡ w .family

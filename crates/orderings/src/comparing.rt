@@ -1,6 +1,9 @@
 // Which of two elements is below the other.
 ghost use mathlib.Core.Path.{_≡_};
 ghost use mathlib.Core.List.{[], _∷_};
+ghost use lib.ListN.{length};
+ghost use Rattle.std.specs.Options.{Cases as BySome};
+ghost use Rattle.orderings.specs.Order.{Agree, DifferAt};
 ghost use Rattle.orderings.specs.Answer.{answer, standing as standing-of};
 ghost use Rattle.orderings.specs.Compare.{Compares, Compare-is-a-total-order, Compare-has-one-answer, Swapping-mirrors-compare};
 ghost use Rattle.orderings.specs.Stands.{StandsAs};
@@ -31,6 +34,23 @@ impl Comparison {
     }
 }
 
+// The first position of a list of variables at which two elements differ.
+pub fn part_at<E: Element>(u: &E, w: &E, order: &[u8]) -> Option<usize>
+    ensures { λ r. ⌜ BySome r (Agree (now (order .entry)) (length (now (order .entry))) (E·Element .shown (now (u .entry))) (E·Element .shown (now (w .entry)))) (λ k. DifferAt (now (order .entry)) k (E·Element .shown (now (u .entry))) (E·Element .shown (now (w .entry)))) ⌝ }
+{
+    let a = u.exponents();
+    let b = w.exponents();
+    for k in 0..order.len() {
+        let variable = order[k];
+        let x = exponent_of(&a, variable);
+        let y = exponent_of(&b, variable);
+        if x != y {
+            return Some(k);
+        }
+    }
+    None
+}
+
 // How u stands to w by family, and then by the exponents of the listed variables, the first listed first.
 fn standing<E: Element>(u: &E, w: &E, order: &[u8]) -> Comparison
     ensures { λ r. ⌜ StandsAs (now (order .entry)) (E·Element .shown (now (u .entry))) (E·Element .shown (now (w .entry))) r ⌝ }
@@ -42,20 +62,19 @@ fn standing<E: Element>(u: &E, w: &E, order: &[u8]) -> Comparison
             Comparison::Above
         };
     }
-    let a = u.exponents();
-    let b = w.exponents();
-    for k in 0..order.len() {
-        let v = order[k];
-        let x = exponent_of(&a, v);
-        let y = exponent_of(&b, v);
-        if x < y {
-            return Comparison::Below;
-        }
-        if x > y {
-            return Comparison::Above;
+    match part_at(u, w, order) {
+        None => Comparison::Same,
+        Some(k) => {
+            let v = order[k];
+            let x = exponent_of(&u.exponents(), v);
+            let y = exponent_of(&w.exponents(), v);
+            if x < y {
+                Comparison::Below
+            } else {
+                Comparison::Above
+            }
         }
     }
-    Comparison::Same
 }
 
 // How u stands to w under an ordering of n variables. Under each ordering this is a total order, each input has one answer,

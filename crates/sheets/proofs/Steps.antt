@@ -1,6 +1,6 @@
 -- The calls of an open sheet as steps of the book. Assumes nothing.
 use mathlib.Core.Path.{_≡_, refl, sym, ap, subst, _∙_}
-use mathlib.Core.Bool.{Bool}
+use mathlib.Core.Bool.{Bool, true, false, cond}
 use mathlib.Core.List.{List, [], _∷_, _++_, map}
 use mathlib.Core.Logic.{_⊎_, inl, inr}
 use Prim.Native.Nat.{ℕ, suc, _+_, _-_, _<_, _≤_}
@@ -9,15 +9,18 @@ use lib.ListN.{length, take, drop, set}
 use Rattle.std.specs.Of.Vec.{vec-items, vec-len}
 use Rattle.std.specs.shelf.Lists.{Has, removed}
 use Rattle.std.proofs.shelf.Lists.{length-map, length-set, length-take-le, getD-take, map-set, map-append, take-map, drop-map}
+use Rattle.std.specs.Orderings.{Decides}
+use Rattle.std.proofs.shelf.Tests.{false≢true}
 use Rattle.elements.specs.Element.{Shown, blank}
 use Rattle.orderings.specs.Answer.{Answer, granted, refused, Check, check, Judged, Answers}
 use Rattle.orderings.specs.Fit.{Fit}
 use Rattle.orderings.specs.Order.{VariableCount, IsOrdering}
 use Rattle.orderings.specs.Rows.{row, Rows}
 use Rattle.orderings.proofs.Judging.{Fails, Hold, judged-refused, judged-granted}
+use Rattle.barcode.specs.Bars.{Star, bar-number}
 use Rattle.sheets.specs.declared.parts.Parts.{Parts}
 use Rattle.sheets.specs.Sheet.{Makes, PlaceCount, natural-order}
-use Rattle.sheets.specs.Book.{State, opened, Book, Call, insert, withdraw, checks, Becomes, Tells, Follows, Answered, fresh}
+use Rattle.sheets.specs.Book.{State, opened, Book, Call, insert, withdraw, checks, Becomes, Tells, TellsBar, starred, unstarred, Follows, Answered, fresh}
 use Rattle.sheets.specs.Read.{Stands, book, Performed}
 use Rattle.sheets.proofs.Natural.{natural-ordered}
 use Rattle.sheets.proofs.Rows.{some-has, rows-insert, rows-pushed, blanks-insert, without, length-without, rows-without, rows-split, rows-withdraw, blanks-withdraw}
@@ -150,3 +153,14 @@ opened-by admits shown q n places count room len blanks order variables rows =
       },
       bound-path admits opened variables len (rw rows) order,
     )
+
+-- a bar as the code tells it
+pub bar-is-told : (rows : List Shown) (order : List ℕ) (u : Shown) (v number : ℕ) (star : Bool) → number ≡ bar-number rows order u v → Decides star (Star rows order u v) →
+    TellsBar rows order u v (granted (number ∷ cond star 1 0 ∷ []))
+bar-is-told rows order u v number true e d = rw e (starred (d .0 refl))
+bar-is-told rows order u v number false e d = rw e (unstarred (λ s. false≢true (d .1 s)))
+
+pub bar-told-of : (seen rows : List Shown) (read again order : List ℕ) (p v number : ℕ) (star : Bool) → seen ≡ rows → read ≡ order → again ≡ order →
+    number ≡ bar-number seen read (row seen p) v → Decides star (Star seen again (row seen p) v) → TellsBar rows order (row rows p) v (granted (number ∷ cond star 1 0 ∷ []))
+bar-told-of seen rows read again order p v number star a b c e d =
+    bar-is-told rows order (row rows p) v number star (rw (a, b) at e) (rw (a, c) at d)

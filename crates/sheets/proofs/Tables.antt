@@ -6,7 +6,7 @@ use mathlib.Core.Logic.{_⊎_, inl, inr}
 use Prim.Native.Nat.{ℕ, _+_, _-_, _<_, _≤_}
 use native.Mathlib.Omega.{arith}
 use lib.ListN.{length, getD, take, drop, set}
-use Rattle.std.proofs.shelf.Lists.{map-set, getD-set-same, getD-set-other, getD-map, getD-past, getD-drop, getD-take, length-map, length-take-le, take-map, drop-map, take-rest}
+use Rattle.std.proofs.shelf.Lists.{map-set, getD-set-same, getD-set-other, getD-map, getD-past, getD-drop, getD-take, length-map, take-map, drop-map, take-rest}
 use Rattle.std.specs.Orderings.{Decides}
 use Rattle.std.specs.Options.{Cases}
 use Rattle.std.specs.declared.option.Option.{Option}
@@ -14,14 +14,7 @@ use Rattle.std.specs.declared.option.Option.the-variants.{Some, None}
 use Rattle.std.specs.shelf.Lists.{Has}
 use Rattle.elements.specs.Element.{Shown, blank}
 use Rattle.orderings.specs.Rows.{row}
-
-module _ {E : Type 0} (shown : E → Shown) where
-  -- what the code read at a place is what the place shows
-  pub row-read : (xs : List E) (i : ℕ) (x : E) → i < length xs → x ≡ getD xs i x → row (map shown xs) i ≡ shown x
-  row-read xs i x l e = getD-map shown xs i x blank l ∙ ap shown (sym e)
-
-  pub row-past : (xs : List E) (i : ℕ) → length xs ≤ i → row (map shown xs) i ≡ blank
-  row-past xs i l = getD-past (map shown xs) i blank (omega (arith, length-map xs shown))
+use Rattle.orderings.proofs.Places.{row-read}
 
 module _ {E : Type 0} (shown : E → Shown) (known : (x y : E) → shown x ≡ shown y → x ≡ y) where
   -- different elements show different things
@@ -49,20 +42,16 @@ module _ {E : Type 0} (shown : E → Shown) where
   blanks-to xs ys count places e l h p = back-part xs ys count places p e l ∙ h (count + p) (omega arith)
 
   -- the place that a search of the rows gives
-  pub place-in : (xs ys : List E) (count : ℕ) (s : Shown) (r : Option ℕ) → ys ≡ xs → count ≤ length (map shown xs) →
-      Cases r ((k : ℕ) → k < length (take (count - 0) ys) → row (map shown (take (count - 0) ys)) k ≡ s → ⊥)
-      (λ p. (p < length (take (count - 0) ys)) × (row (map shown (take (count - 0) ys)) p ≡ s) × ((k : ℕ) → k < p → row (map shown (take (count - 0) ys)) k ≡ s → ⊥)) →
+  pub place-in : (xs rows : List E) (count : ℕ) (s : Shown) (r : Option ℕ) → map shown rows ≡ take count (map shown xs) → length rows ≡ count →
+      Cases r ((k : ℕ) → k < length rows → row (map shown rows) k ≡ s → ⊥)
+      (λ p. (p < length rows) × (row (map shown rows) p ≡ s) × ((k : ℕ) → k < p → row (map shown rows) k ≡ s → ⊥)) →
       Cases r (Has (take count (map shown xs)) s → ⊥) (λ p. (p < count) × (row (map shown xs) p ≡ s))
-  place-in xs ys count s None e l none =
-      let f = front-part xs ys count e in
-      let n : length (take (count - 0) ys) ≡ length (take count (map shown xs)) = sym (length-map (take (count - 0) ys) shown) ∙ ap length f in
-      λ h. none (h .0) (omega (arith, h .1)) (rw f (h .2 blank))
-  place-in xs ys count s (Some p) e l found =
-      let f = front-part xs ys count e in
-      let n : length (take (count - 0) ys) ≡ length (take count (map shown xs)) = sym (length-map (take (count - 0) ys) shown) ∙ ap length f in
-      let m = length-take-le count (map shown xs) l in
+  place-in xs rows count s None e l none =
+      let n : length rows ≡ length (take count (map shown xs)) = sym (length-map rows shown) ∙ ap length e in
+      λ h. none (h .0) (omega (arith, h .1)) (rw e (h .2 blank))
+  place-in xs rows count s (Some p) e l found =
       let h : p < count = omega (arith, found .0) in
-      (h, sym (getD-take count (map shown xs) p blank h) ∙ sym (ap (λ t. row t p) f) ∙ found .1)
+      (h, sym (getD-take count (map shown xs) p blank h) ∙ sym (ap (λ t. row t p) e) ∙ found .1)
 
   -- a written place, and the places before it
   pub row-written : (xs : List E) (i : ℕ) (x : E) → i < length xs → row (map shown (set xs i x)) i ≡ shown x

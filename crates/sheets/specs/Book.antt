@@ -2,19 +2,19 @@
 use mathlib.Core.Path.{_≡_}
 use mathlib.Core.Bool.{Bool}
 use mathlib.Core.List.{List, [], _∷_, _++_}
-use Prim.Native.Nat.{ℕ, _<_}
+use Prim.Native.Nat.{ℕ, _<_, _≤_}
 use lib.ListN.{length}
 use Rattle.std.specs.declared.option.Option.{Option}
+use Rattle.std.specs.declared.option.Option.the-variants.{Some, None}
 use Rattle.std.specs.shelf.Lists.{Has}
 use Rattle.elements.specs.Element.{Shown}
 use Rattle.orderings.specs.Answer.{Answer, granted, Check, check, Judged, Answers}
 use Rattle.orderings.specs.Fit.{Fit}
 use Rattle.orderings.specs.Order.{VariableCount, IsOrdering}
+use Rattle.orderings.specs.Rows.{row}
+use Rattle.barcode.specs.Bars.{Star, bar-number}
+use Rattle.divisions.specs.Laws.{Meaning}
 use Rattle.sheets.specs.Sheet.{PlaceCount, natural-order}
-
--- what a division means: from the rows, an ordering, the place of a row and a variable to the limit, if there is one
-abbrev pub Meaning : Type 0
-Meaning = List Shown → List ℕ → ℕ → ℕ → Option ℕ
 
 pub data State : Type 0 where
   opened : State
@@ -34,21 +34,35 @@ pub data Call : Type 0 where
   insert : Shown → Call
   withdraw : Shown → Call
   arrange : List ℕ → Call
+  bar : ℕ → ℕ → Call
+  limit : Meaning → ℕ → ℕ → Call
 
 -- the calls that a state takes
 abbrev pub Takes : State → Call → Type 0
 Takes opened (insert e) = Unit {0}
 Takes opened (withdraw e) = Unit {0}
 Takes opened (arrange o) = Unit {0}
+Takes opened (bar p v) = Unit {0}
+Takes opened (limit d p v) = Unit {0}
 Takes (settledBy m) (insert e) = ⊥
 Takes (settledBy m) (withdraw e) = ⊥
 Takes (settledBy m) (arrange o) = ⊥
+Takes (settledBy m) (bar p v) = ⊥
+Takes (settledBy m) (limit d p v) = ⊥
+
+-- a place with a row, and one of the n variables
+pub record HasBar (b : Book) (p v : ℕ) : Type 0 where
+  pub place : p < length (b .rows)
+  pub low : 1 ≤ v
+  pub high : v ≤ b .n
 
 -- what a call asks of what it is handed and of the book, in the order of the refusals
 abbrev pub asks : Book → Call → List Check
 asks b (insert e) = check 9 (Fit (b .admits) (b .n) e) ∷ check 13 (Has (b .rows) e → ⊥) ∷ check 14 (length (b .rows) < b .places) ∷ []
 asks b (withdraw e) = check 9 (Fit (b .admits) (b .n) e) ∷ check 15 (Has (b .rows) e) ∷ []
 asks b (arrange o) = check 11 (IsOrdering (b .n) o) ∷ []
+asks b (bar p v) = check 10 (HasBar b p v) ∷ []
+asks b (limit d p v) = check 10 (HasBar b p v) ∷ []
 
 abbrev pub checks : Book → Call → List Check
 checks b call = check 3 (Takes (b .state) call) ∷ asks b call
@@ -64,12 +78,26 @@ abbrev pub Becomes : Book → Call → Book → Type 0
 Becomes b (insert e) c = c ≡ with-rows b (b .rows ++ e ∷ [])
 Becomes b (withdraw e) c = (front : List Shown) × (back : List Shown) × (b .rows ≡ front ++ e ∷ back) × (c ≡ with-rows b (front ++ back))
 Becomes b (arrange o) c = c ≡ with-order b o
+Becomes b (bar p v) c = c ≡ b
+Becomes b (limit d p v) c = c ≡ b
+
+-- a bar is told by its number, and 1 where a star follows it or else 0
+pub data TellsBar (rows : List Shown) (order : List ℕ) (u : Shown) (v : ℕ) : Answer → Type 0 where
+  starred : Star rows order u v → TellsBar rows order u v (granted (bar-number rows order u v ∷ 1 ∷ []))
+  unstarred : (Star rows order u v → ⊥) → TellsBar rows order u v (granted (bar-number rows order u v ∷ 0 ∷ []))
+
+-- a limit is told by itself, and its absence by nothing
+abbrev pub limit-told : Option ℕ → List ℕ
+limit-told None = []
+limit-told (Some d) = d ∷ []
 
 -- what a call that is not refused answers
 abbrev pub Tells : Book → Call → Answer → Type 0
 Tells b (insert e) a = a ≡ granted (length (b .rows) ∷ [])
 Tells b (withdraw e) a = a ≡ granted []
 Tells b (arrange o) a = a ≡ granted []
+Tells b (bar p v) a = TellsBar (b .rows) (b .order) (row (b .rows) p) v a
+Tells b (limit d p v) a = a ≡ granted (limit-told (d (b .rows) (b .order) p v))
 
 -- the book after a call: a refused call changes nothing
 abbrev pub Follows : Book → Call → Book → Type 0

@@ -1,6 +1,6 @@
 -- How the parts of a sheet are read, and what a call on them comes to. Assumes nothing.
 use mathlib.Core.Path.{_≡_}
-use mathlib.Core.Bool.{Bool}
+use mathlib.Core.Bool.{Bool, cond}
 use mathlib.Core.List.{List, [], _∷_, _++_, map}
 use Prim.Native.Nat.{ℕ, _+_}
 use lib.ListN.{length, take, set}
@@ -15,8 +15,13 @@ use Rattle.sheets.specs.declared.parts.Header.{Header}
 use Rattle.sheets.specs.declared.parts.Parts.{Parts}
 use Rattle.sheets.specs.declared.parts.OpenSheet.{OpenSheet}
 use Rattle.sheets.specs.declared.parts.Denied.{Denied}
+use Rattle.sheets.specs.declared.parts.Bar.{Bar}
 use Rattle.sheets.specs.Sheet.{Makes}
 use Rattle.sheets.specs.Book.{Book, State, opened, Call, Follows, Answered, fresh, open-asks}
+
+-- bar's values
+abbrev pub bar-told : Bar → List ℕ
+bar-told b = b .number ∷ cond (b .star) 1 0 ∷ []
 
 -- open's answer
 abbrev pub open-answer : {E : Type 0} → Result (OpenSheet E) (Denied (Parts E)) → Answer

@@ -9,7 +9,8 @@ ghost use Rattle.std.specs.Options.{Cases as BySome};
 ghost use Rattle.std.specs.Orderings.{Decides};
 ghost use Rattle.elements.specs.Element.{blank as nothing};
 ghost use Rattle.orderings.specs.Rows.{row as place, Rows};
-ghost use Rattle.sheets.specs.Read.{Stands, A-book-fixes-its-sheet};
+ghost use Rattle.sheets.specs.Book.{opened, HasBar};
+ghost use Rattle.sheets.specs.Read.{Stands, book, A-book-fixes-its-sheet};
 use crate::parts::*;
 use elements::Element;
 use elements::blank;
@@ -88,10 +89,27 @@ pub fn makes_sheet<E: Element>(parts: &Parts<E>) -> bool
     are_rows(&parts.table[0..count], n) && are_blank(&parts.table[count..places])
 }
 
+// The rows of a sheet.
+pub(crate) fn rows_of<E: Element>(parts: &Parts<E>) -> &[E]
+    requires { ⌜ Stands (E·Element .admitted) (E·Element .shown) (now parts) ⌝ }
+    ensures rows { λ r. ⌜ map (E·Element .shown) (now r) ≡ take (now (parts .entry) .header .rows) (map (E·Element .shown) (vec-items (now (parts .entry) .table))) ⌝ }
+    ensures count { λ r. ⌜ length (now r) ≡ now (parts .entry) .header .rows ⌝ }
+{
+    &parts.table[0..parts.header.rows as usize]
+}
+
 // The place of the row that is the element, on a sheet.
 pub(crate) fn row_place<E: Element>(parts: &Parts<E>, element: &E) -> Option<usize>
     requires { ⌜ Stands (E·Element .admitted) (E·Element .shown) (now parts) ⌝ }
     ensures { λ r. ⌜ BySome r (Has (take (now (parts .entry) .header .rows) (map (E·Element .shown) (vec-items (now (parts .entry) .table)))) (E·Element .shown (now (element .entry))) → ⊥) (λ p. (p < now (parts .entry) .header .rows) × (place (map (E·Element .shown) (vec-items (now (parts .entry) .table))) p ≡ E·Element .shown (now (element .entry)))) ⌝ }
 {
-    place_of(&parts.table[0..parts.header.rows as usize], element)
+    place_of(rows_of(parts), element)
+}
+
+// Whether a place of a sheet has a row, and a number is one of the sheet's variables.
+pub(crate) fn has_bar<E: Element>(parts: &Parts<E>, place: usize, variable: u8) -> bool
+    requires { ⌜ Stands (E·Element .admitted) (E·Element .shown) (now parts) ⌝ }
+    ensures { λ r. ⌜ Decides r (HasBar (book (E·Element .admitted) (E·Element .shown) opened (now (parts .entry))) place variable) ⌝ }
+{
+    place < parts.header.rows as usize && variable >= 1 && variable <= parts.header.variables
 }

@@ -1,5 +1,6 @@
-// The editable sheet: its parts, what makes a sheet, and the calls that change it.
+// The sheet: its parts, what makes a sheet, and the calls on an open one.
 pub mod editing;
 pub mod judging;
 pub mod opening;
 pub mod parts;
+pub mod reading;

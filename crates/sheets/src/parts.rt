@@ -28,3 +28,10 @@ pub struct Denied<T> {
     pub back: T,
     pub why: Refusal,
 }
+
+// The number of a bar, and whether a star follows it.
+#[derive(Clone, Copy, PartialEq, Eq, Debug)]
+pub struct Bar {
+    pub number: usize,
+    pub star: bool,
+}

@@ -1,4 +1,5 @@
 // A guided tour: one task followed from beginning to end, each step told in words.
+mod bars;
 mod names;
 mod sheet;
 mod terms;

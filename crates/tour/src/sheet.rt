@@ -1,4 +1,5 @@
 // The set on a sheet of four places: open, insert, withdraw, arrange, and what is refused.
+use crate::bars;
 use crate::names::*;
 use elements::PlainTerm;
 use elements::PlainTermElement;
@@ -40,11 +41,17 @@ fn tell_edits(
         tell_insert(rt, &mut sheet, second)?;
         tell_insert(rt, &mut sheet, first)?;
     }
+    println!(rt)?;
+    bars::tell(rt, &sheet)?;
+    println!(rt)?;
+    println!(rt, "The same sheet:")?;
     tell_arrange(rt, &mut sheet, &[2, 1, 0, 0, 0, 0, 0, 0])?;
-    show(rt, &sheet.parts)
+    show(rt, &sheet.parts)?;
+    println!(rt)?;
+    bars::tell(rt, &sheet)
 }
 
-fn tell_refusal(rt: &LibcRuntime, refusal: Refusal) -> io::Result<()> {
+pub(crate) fn tell_refusal(rt: &LibcRuntime, refusal: Refusal) -> io::Result<()> {
     let number = refusal.number();
     let why = reason(refusal);
     println!(rt, "refused by {number}, {why}.")

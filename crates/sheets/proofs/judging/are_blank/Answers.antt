@@ -4,7 +4,8 @@ use native.Mathlib.Omega.{arith}
 use borrow.Author.Count.{below-more}
 use Rattle.std.proofs.shelf.Tests.{cases-lt, false≢true}
 use Rattle.std.proofs.shelf.Ways.{not-from-decides}
-use Rattle.sheets.proofs.Tables.{row-read, row-past, row-differs}
+use Rattle.orderings.proofs.Places.{row-read, row-past}
+use Rattle.sheets.proofs.Tables.{row-differs}
 use Rattle.sheets.proofs.judging.are_blank.Needs as need
 
 pub returns-then-not-same : need.returns-then-not-same

@@ -8,7 +8,7 @@ use Rattle.std.proofs.shelf.Lists.{length-map}
 use Rattle.std.proofs.shelf.Tests.{false≢true}
 use Rattle.std.proofs.shelf.Ways.{not-from-decides}
 use Rattle.orderings.specs.Fit.{Fit}
-use Rattle.sheets.proofs.Tables.{row-read}
+use Rattle.orderings.proofs.Places.{row-read}
 use Rattle.sheets.proofs.judging.are_rows.Needs as need
 use Rattle.sheets.proofs.judging.are_rows.Needs.{then-not-is-fit·by·then-not-is-fit, then-not-is-fit·by·else-not-is-fit·then-repeats}
 

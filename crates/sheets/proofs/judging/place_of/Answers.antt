@@ -2,7 +2,8 @@ use mathlib.Core.Path.{_≡_, refl, ap, _∙_}
 use native.Mathlib.Omega.{arith}
 use borrow.Author.Count.{below-more}
 use Rattle.std.proofs.shelf.Ways.{not-from-decides}
-use Rattle.sheets.proofs.Tables.{row-read, row-differs}
+use Rattle.orderings.proofs.Places.{row-read}
+use Rattle.sheets.proofs.Tables.{row-differs}
 use Rattle.sheets.proofs.judging.place_of.Needs as need
 
 pub returns-then-same : need.returns-then-same

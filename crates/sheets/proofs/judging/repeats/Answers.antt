@@ -4,7 +4,8 @@ use native.Mathlib.Omega.{arith}
 use lib.ListN.{length}
 use borrow.Author.Count.{below-more}
 use Rattle.std.proofs.shelf.Ways.{not-from-decides}
-use Rattle.sheets.proofs.Tables.{row-read, row-differs}
+use Rattle.orderings.proofs.Places.{row-read}
+use Rattle.sheets.proofs.Tables.{row-differs}
 use Rattle.sheets.proofs.judging.repeats.Needs as need
 
 pub returns-then-same : need.returns-then-same

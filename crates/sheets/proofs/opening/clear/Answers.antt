@@ -7,7 +7,8 @@ use native.Mathlib.Omega.{arith}
 use borrow.Author.Count.{below-more}
 use Rattle.std.specs.Of.Vec.{vec-items, vec-len}
 use Rattle.std.proofs.shelf.Tests.{cases-lt}
-use Rattle.sheets.proofs.Tables.{row-written, row-kept, row-past}
+use Rattle.orderings.proofs.Places.{row-past}
+use Rattle.sheets.proofs.Tables.{row-written, row-kept}
 use Rattle.sheets.proofs.opening.clear.Needs as need
 
 pub loop-p-again : need.loop-p-again

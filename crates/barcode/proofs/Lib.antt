@@ -1,0 +1,6 @@
+pub mod Listed
+pub mod Tested
+pub mod Least
+pub mod Gaps
+pub mod Found
+pub mod Count

@@ -1,0 +1,3 @@
+pub mod Laws
+pub mod Janet
+pub mod Either
