@@ -1,0 +1,4 @@
+pub mod Products
+pub mod Divisors
+pub mod Completeness
+pub mod Reading
