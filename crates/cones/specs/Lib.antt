@@ -1,2 +1,3 @@
 pub mod Cones
 pub mod Tables
+pub mod Judged

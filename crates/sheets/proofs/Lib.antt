@@ -3,3 +3,4 @@ pub mod Rows
 pub mod Natural
 pub mod Steps
 pub mod Whole
+pub mod Verdicts

@@ -14,6 +14,7 @@ use Rattle.orderings.specs.Order.{VariableCount, IsOrdering}
 use Rattle.orderings.specs.Rows.{row}
 use Rattle.barcode.specs.Bars.{Star, bar-number}
 use Rattle.divisions.specs.Laws.{Meaning}
+use Rattle.cones.specs.Cones.{Limits, Complete, FirstShortfall}
 use Rattle.sheets.specs.Sheet.{PlaceCount, natural-order}
 
 pub data State : Type 0 where
@@ -36,6 +37,8 @@ pub data Call : Type 0 where
   arrange : List ℕ → Call
   bar : ℕ → ℕ → Call
   limit : Meaning → ℕ → ℕ → Call
+  verdict : Meaning → Call
+  weigh : Meaning → List ℕ → Call
 
 -- the calls that a state takes
 abbrev pub Takes : State → Call → Type 0
@@ -44,11 +47,15 @@ Takes opened (withdraw e) = Unit {0}
 Takes opened (arrange o) = Unit {0}
 Takes opened (bar p v) = Unit {0}
 Takes opened (limit d p v) = Unit {0}
+Takes opened (verdict d) = Unit {0}
+Takes opened (weigh d o) = Unit {0}
 Takes (settledBy m) (insert e) = ⊥
 Takes (settledBy m) (withdraw e) = ⊥
 Takes (settledBy m) (arrange o) = ⊥
 Takes (settledBy m) (bar p v) = ⊥
 Takes (settledBy m) (limit d p v) = ⊥
+Takes (settledBy m) (verdict d) = ⊥
+Takes (settledBy m) (weigh d o) = ⊥
 
 -- a place with a row, and one of the n variables
 pub record HasBar (b : Book) (p v : ℕ) : Type 0 where
@@ -63,6 +70,8 @@ asks b (withdraw e) = check 9 (Fit (b .admits) (b .n) e) ∷ check 15 (Has (b .r
 asks b (arrange o) = check 11 (IsOrdering (b .n) o) ∷ []
 asks b (bar p v) = check 10 (HasBar b p v) ∷ []
 asks b (limit d p v) = check 10 (HasBar b p v) ∷ []
+asks b (verdict d) = check 12 (1 ≤ length (b .rows)) ∷ []
+asks b (weigh d o) = check 11 (IsOrdering (b .n) o) ∷ check 12 (1 ≤ length (b .rows)) ∷ []
 
 abbrev pub checks : Book → Call → List Check
 checks b call = check 3 (Takes (b .state) call) ∷ asks b call
@@ -80,6 +89,8 @@ Becomes b (withdraw e) c = (front : List Shown) × (back : List Shown) × (b .ro
 Becomes b (arrange o) c = c ≡ with-order b o
 Becomes b (bar p v) c = c ≡ b
 Becomes b (limit d p v) c = c ≡ b
+Becomes b (verdict d) c = c ≡ b
+Becomes b (weigh d o) c = c ≡ b
 
 -- a bar is told by its number, and 1 where a star follows it or else 0
 pub data TellsBar (rows : List Shown) (order : List ℕ) (u : Shown) (v : ℕ) : Answer → Type 0 where
@@ -91,6 +102,17 @@ abbrev pub limit-told : Option ℕ → List ℕ
 limit-told None = []
 limit-told (Some d) = d ∷ []
 
+-- an element is told by its family and its exponents
+abbrev pub element-told : Shown → List ℕ
+element-told e = e .family ∷ e .exponents
+
+-- a verdict is told by 1 for yes or 0 for no, a place, a variable, a power and an element.
+-- Yes exactly where the rows are complete: then the numbers are 0 and the element is the row at place 0.
+-- Else the first shortfall: the place of its row, its variable and its power, and the row itself
+pub data TellsVerdict (n : ℕ) (rows : List Shown) (lim : Limits) : Answer → Type 0 where
+  complete : Complete n rows lim → TellsVerdict n rows lim (granted (1 ∷ 0 ∷ 0 ∷ 0 ∷ element-told (row rows 0)))
+  short : {p v m : ℕ} → (Complete n rows lim → ⊥) → FirstShortfall n rows lim p v m → TellsVerdict n rows lim (granted (0 ∷ p ∷ v ∷ m ∷ element-told (row rows p)))
+
 -- what a call that is not refused answers
 abbrev pub Tells : Book → Call → Answer → Type 0
 Tells b (insert e) a = a ≡ granted (length (b .rows) ∷ [])
@@ -98,6 +120,8 @@ Tells b (withdraw e) a = a ≡ granted []
 Tells b (arrange o) a = a ≡ granted []
 Tells b (bar p v) a = TellsBar (b .rows) (b .order) (row (b .rows) p) v a
 Tells b (limit d p v) a = a ≡ granted (limit-told (d (b .rows) (b .order) p v))
+Tells b (verdict d) a = TellsVerdict (b .n) (b .rows) (d (b .rows) (b .order)) a
+Tells b (weigh d o) a = TellsVerdict (b .n) (b .rows) (d (b .rows) o) a
 
 -- the book after a call: a refused call changes nothing
 abbrev pub Follows : Book → Call → Book → Type 0

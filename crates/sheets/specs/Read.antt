@@ -16,12 +16,17 @@ use Rattle.sheets.specs.declared.parts.Parts.{Parts}
 use Rattle.sheets.specs.declared.parts.OpenSheet.{OpenSheet}
 use Rattle.sheets.specs.declared.parts.Denied.{Denied}
 use Rattle.sheets.specs.declared.parts.Bar.{Bar}
+use Rattle.sheets.specs.declared.parts.Verdict.{Verdict}
 use Rattle.sheets.specs.Sheet.{Makes}
-use Rattle.sheets.specs.Book.{Book, State, opened, Call, Follows, Answered, fresh, open-asks}
+use Rattle.sheets.specs.Book.{Book, State, opened, Call, Follows, Answered, element-told, fresh, open-asks}
 
 -- bar's values
 abbrev pub bar-told : Bar → List ℕ
 bar-told b = b .number ∷ cond (b .star) 1 0 ∷ []
+
+-- the values of a verdict
+abbrev pub verdict-told : {E : Type 0} → (E → Shown) → Verdict E → List ℕ
+verdict-told shown v = cond (v .complete) 1 0 ∷ v .place ∷ v .variable ∷ v .power ∷ element-told (shown (v .element))
 
 -- open's answer
 abbrev pub open-answer : {E : Type 0} → Result (OpenSheet E) (Denied (Parts E)) → Answer

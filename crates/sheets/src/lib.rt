@@ -4,3 +4,4 @@ pub mod judging;
 pub mod opening;
 pub mod parts;
 pub mod reading;
+pub mod weighing;

@@ -35,3 +35,14 @@ pub struct Bar {
     pub number: usize,
     pub star: bool,
 }
+
+// Whether rows are complete. Where they are, the element is the row at place 0 and the numbers are 0;
+// else it is the row that falls short first, with its place, the variable and the power.
+#[derive(Clone, Copy)]
+pub struct Verdict<E> {
+    pub complete: bool,
+    pub element: E,
+    pub place: usize,
+    pub variable: u8,
+    pub power: u16,
+}

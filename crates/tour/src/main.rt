@@ -3,6 +3,7 @@ mod bars;
 mod names;
 mod sheet;
 mod terms;
+mod verdicts;
 
 use elements::Element;
 use elements::PlainTerm;

@@ -1,6 +1,7 @@
 // The set on a sheet of four places: open, insert, withdraw, arrange, and what is refused.
 use crate::bars;
 use crate::names::*;
+use crate::verdicts;
 use elements::PlainTerm;
 use elements::PlainTermElement;
 use elements::blank;
@@ -48,7 +49,9 @@ fn tell_edits(
     tell_arrange(rt, &mut sheet, &[2, 1, 0, 0, 0, 0, 0, 0])?;
     show(rt, &sheet.parts)?;
     println!(rt)?;
-    bars::tell(rt, &sheet)
+    bars::tell(rt, &sheet)?;
+    println!(rt)?;
+    verdicts::tell(rt, &sheet)
 }
 
 pub(crate) fn tell_refusal(rt: &LibcRuntime, refusal: Refusal) -> io::Result<()> {

@@ -5,3 +5,5 @@ mod bars;
 mod comparing;
 #[cfg(test)]
 mod editing;
+#[cfg(test)]
+mod verdicts;
