@@ -7,7 +7,7 @@ use lib.Dec.{eqb}
 use lib.ListN.{length, getD, take}
 use Rattle.std.proofs.shelf.Tests.{cond-true, cond-false, eq-eqb, ne-eqb}
 use Rattle.orderings.specs.Order.{at, IsOrdering}
-use Rattle.orderings.proofs.Positions.{one-position}
+use Rattle.orderings.proofs.Positions.{few, position as found}
 use Rattle.barcode.specs.Bars.{position}
 
 pub position-is : (xs : List ℕ) (k v : ℕ) → k < length xs → at xs k ≡ v → ((j : ℕ) → j < k → at xs j ≡ v → ⊥) → position xs v ≡ k
@@ -26,3 +26,11 @@ position-none (x ∷ xs) v h =
 pub position-at : (n : ℕ) (order : List ℕ) → IsOrdering n order → (k : ℕ) → k < n → n ≤ 8 → position order (at order k) ≡ k
 position-at n order o k l few =
     position-is order k (at order k) (omega (arith, o .eight)) refl (λ j m e. o .distinct j k m l e)
+
+-- each variable of an ordering stands at its position
+pub stands-at : (n : ℕ) (order : List ℕ) → IsOrdering n order → (v : ℕ) → 1 ≤ v → v ≤ n → (r : ℕ) → r ≡ position order v → (r < n) × (at order r ≡ v)
+stands-at n order o v low high r e =
+    let (k, l, h) = found n order o v low high in
+    let same : position order v ≡ k = ap (position order) (sym h) ∙ position-at n order o k l (few n order o) in
+    let here : r ≡ k = e ∙ same in
+    (omega arith, ap (at order) here ∙ h)

@@ -5,6 +5,7 @@ ghost use mathlib.Core.List.{map};
 ghost use Prim.Native.Nat.{ℕ, _<_, _≤_};
 ghost use lib.ListN.{length};
 ghost use Rattle.std.specs.Orderings.{Decides};
+ghost use Rattle.orderings.specs.Order.{at, IsOrdering};
 ghost use Rattle.orderings.specs.Rows.{row as at-place};
 ghost use Rattle.barcode.specs.Bars.{position as position-in, SameBar, LowerBar, Star, bar-number, lower-bar, opens-bar, Bar-number-counts-the-different-lower-bars};
 ghost use Rattle.barcode.specs.Gap.{rise as rise-of, lesser, gap as gap-of, IsGap};
@@ -12,9 +13,11 @@ use elements::Element;
 use elements::exponent_of;
 use orderings::comparing::part_at;
 
-// The position of a variable in an ordering: the first at which it stands, or the length where it does not.
+// The position of a variable in a list: the first at which it stands, or the length where it does not.
+// In an ordering of n variables each of them stands at its position, one of the first n.
 pub fn position(order: &[u8], variable: u8) -> usize
-    ensures { λ r. ⌜ r ≡ position-in (now (order .entry)) variable ⌝ }
+    ensures value { λ r. ⌜ r ≡ position-in (now (order .entry)) variable ⌝ }
+    ensures listed { λ r. ⌜ ((n : ℕ) → IsOrdering n (now (order .entry)) → 1 ≤ variable → variable ≤ n → (r < n) × (at (now (order .entry)) r ≡ variable)) ⌝ }
 {
     for k in 0..order.len() {
         if order[k] == variable {

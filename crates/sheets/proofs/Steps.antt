@@ -50,7 +50,7 @@ module _ {E : Type 0} (admits : ℕ → Bool) (shown : E → Shown) (state : Sta
     follows = λ s. absurd (none s);
     answered = λ s. absurd (none s);
     unmade = λ _. refl;
-    kept = λ _ _ _. refl;
+    kept = λ _ _ _. (refl, refl);
   }
 
   -- a check that fails
@@ -60,7 +60,7 @@ module _ {E : Type 0} (admits : ℕ → Bool) (shown : E → Shown) (state : Sta
     follows = λ _. judged-refused (λ _. book admits shown state p) (Becomes (book admits shown state p) call) (checks (book admits shown state p) call) r f;
     answered = λ _. judged-refused (λ x. refused x []) (Tells (book admits shown state p) call) (checks (book admits shown state p) call) r f;
     unmade = λ none. absurd (none st);
-    kept = λ _ _ _. refl;
+    kept = λ _ _ _. (refl, refl);
   }
 
   -- a grant

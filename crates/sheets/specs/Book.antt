@@ -9,12 +9,12 @@ use Rattle.std.specs.declared.option.Option.the-variants.{Some, None}
 use Rattle.std.specs.shelf.Lists.{Has}
 use Rattle.elements.specs.Element.{Shown}
 use Rattle.orderings.specs.Answer.{Answer, granted, Check, check, Judged, Answers}
-use Rattle.orderings.specs.Fit.{Fit}
+use Rattle.orderings.specs.Fit.{Admitted, Fit}
 use Rattle.orderings.specs.Order.{VariableCount, IsOrdering}
 use Rattle.orderings.specs.Rows.{row}
 use Rattle.barcode.specs.Bars.{Star, bar-number}
 use Rattle.divisions.specs.Laws.{Meaning}
-use Rattle.cones.specs.Cones.{Limits, Complete, FirstShortfall}
+use Rattle.cones.specs.Cones.{Limits, InCone, Complete, FirstShortfall}
 use Rattle.sheets.specs.Sheet.{PlaceCount, natural-order}
 
 pub data State : Type 0 where
@@ -39,6 +39,8 @@ pub data Call : Type 0 where
   limit : Meaning → ℕ → ℕ → Call
   verdict : Meaning → Call
   weigh : Meaning → List ℕ → Call
+  locate : Shown → Call
+  reopen : Call
 
 -- the calls that a state takes
 abbrev pub Takes : State → Call → Type 0
@@ -49,6 +51,8 @@ Takes opened (bar p v) = Unit {0}
 Takes opened (limit d p v) = Unit {0}
 Takes opened (verdict d) = Unit {0}
 Takes opened (weigh d o) = Unit {0}
+Takes opened (locate e) = ⊥
+Takes opened reopen = ⊥
 Takes (settledBy m) (insert e) = ⊥
 Takes (settledBy m) (withdraw e) = ⊥
 Takes (settledBy m) (arrange o) = ⊥
@@ -56,6 +60,17 @@ Takes (settledBy m) (bar p v) = ⊥
 Takes (settledBy m) (limit d p v) = ⊥
 Takes (settledBy m) (verdict d) = ⊥
 Takes (settledBy m) (weigh d o) = ⊥
+Takes (settledBy m) (locate e) = Unit {0}
+Takes (settledBy m) reopen = Unit {0}
+
+-- the limits by which a settled book's cones are drawn: those of its ordering and division
+abbrev pub state-limits : State → List Shown → List ℕ → Limits
+state-limits opened rows order = λ p v. None
+state-limits (settledBy m) rows order = m rows order
+
+-- the row at place s has the element in its cone
+abbrev pub Located : Book → Shown → ℕ → Type 0
+Located b e s = InCone (b .n) (b .rows) (state-limits (b .state) (b .rows) (b .order)) s e
 
 -- a place with a row, and one of the n variables
 pub record HasBar (b : Book) (p v : ℕ) : Type 0 where
@@ -71,6 +86,8 @@ asks b (arrange o) = check 11 (IsOrdering (b .n) o) ∷ []
 asks b (bar p v) = check 10 (HasBar b p v) ∷ []
 asks b (limit d p v) = check 10 (HasBar b p v) ∷ []
 asks b (verdict d) = check 12 (1 ≤ length (b .rows)) ∷ []
+asks b (locate e) = check 9 (Admitted (b .admits) (b .n) e) ∷ check 17 ((s : ℕ) × Located b e s) ∷ []
+asks b reopen = []
 asks b (weigh d o) = check 11 (IsOrdering (b .n) o) ∷ check 12 (1 ≤ length (b .rows)) ∷ []
 
 abbrev pub checks : Book → Call → List Check
@@ -82,6 +99,9 @@ with-rows b rows = record { admits = b .admits; n = b .n; places = b .places; ro
 abbrev pub with-order : Book → List ℕ → Book
 with-order b order = record { admits = b .admits; n = b .n; places = b .places; rows = b .rows; order = order; state = b .state }
 
+abbrev pub with-state : Book → State → Book
+with-state b state = record { admits = b .admits; n = b .n; places = b .places; rows = b .rows; order = b .order; state = state }
+
 -- what a call that is not refused makes of the book
 abbrev pub Becomes : Book → Call → Book → Type 0
 Becomes b (insert e) c = c ≡ with-rows b (b .rows ++ e ∷ [])
@@ -91,6 +111,8 @@ Becomes b (bar p v) c = c ≡ b
 Becomes b (limit d p v) c = c ≡ b
 Becomes b (verdict d) c = c ≡ b
 Becomes b (weigh d o) c = c ≡ b
+Becomes b (locate e) c = c ≡ b
+Becomes b reopen c = c ≡ with-state b opened
 
 -- a bar is told by its number, and 1 where a star follows it or else 0
 pub data TellsBar (rows : List Shown) (order : List ℕ) (u : Shown) (v : ℕ) : Answer → Type 0 where
@@ -122,6 +144,8 @@ Tells b (bar p v) a = TellsBar (b .rows) (b .order) (row (b .rows) p) v a
 Tells b (limit d p v) a = a ≡ granted (limit-told (d (b .rows) (b .order) p v))
 Tells b (verdict d) a = TellsVerdict (b .n) (b .rows) (d (b .rows) (b .order)) a
 Tells b (weigh d o) a = TellsVerdict (b .n) (b .rows) (d (b .rows) o) a
+Tells b (locate e) a = (s : ℕ) × Located b e s × (a ≡ granted (s ∷ []))
+Tells b reopen a = a ≡ granted []
 
 -- the book after a call: a refused call changes nothing
 abbrev pub Follows : Book → Call → Book → Type 0

@@ -28,10 +28,15 @@ bar-told b = b .number ∷ cond (b .star) 1 0 ∷ []
 abbrev pub verdict-told : {E : Type 0} → (E → Shown) → Verdict E → List ℕ
 verdict-told shown v = cond (v .complete) 1 0 ∷ v .place ∷ v .variable ∷ v .power ∷ element-told (shown (v .element))
 
--- open's answer
-abbrev pub open-answer : {E : Type 0} → Result (OpenSheet E) (Denied (Parts E)) → Answer
-open-answer (Ok s) = granted []
-open-answer (Err d) = refusal (d .why)
+-- what a call that gives its sheet back comes to: the answer, and the state and parts after it
+module _ {X Y : Type 0} where
+  abbrev pub moved-answer : (Y → List ℕ) → Result Y (Denied X) → Answer
+  moved-answer tells (Ok y) = granted (tells y)
+  moved-answer tells (Err d) = refusal (d .why)
+
+  abbrev pub moved : {Z : Type 0} → (X → Z) → (Y → Z) → Result Y (Denied X) → Z
+  moved old new (Ok y) = new y
+  moved old new (Err d) = old (d .back)
 
 module _ {E : Type 0} (admits : ℕ → Bool) (shown : E → Shown) where
   -- the parts make a sheet of the kind
@@ -55,17 +60,21 @@ module _ {E : Type 0} (admits : ℕ → Bool) (shown : E → Shown) where
       (state : State) (p q : Parts E) → Stands p → Stands q → book state p ≡ book state q →
       (vec-items (p .table) ≡ vec-items (q .table)) × (vec-items (p .order) ≡ vec-items (q .order)) × (p .header ≡ q .header)
 
-  -- a call on parts in a state: where they make a sheet it is a step of the book, and else 8; what refuses alters nothing
-  pub record Performed (state : State) (before : Parts E) (call : Call) (told : Answer) (after : Parts E) : Type 0 where
+  -- a call on parts in a state, and the parts and state after it: where they make a sheet it is a step of the book, and else 8; what is refused alters nothing
+  pub record Moved (state : State) (before : Parts E) (call : Call) (told : Answer) (next : State) (after : Parts E) : Type 0 where
     pub stands : Stands before → Stands after
-    pub follows : Stands before → Follows (book state before) call (book state after)
+    pub follows : Stands before → Follows (book state before) call (book next after)
     pub answered : Stands before → Answered (book state before) call told
     pub unmade : (Stands before → ⊥) → told ≡ refused 8 []
-    pub kept : (r : ℕ) (vs : List ℕ) → told ≡ refused r vs → after ≡ before
+    pub kept : (r : ℕ) (vs : List ℕ) → told ≡ refused r vs → (next ≡ state) × (after ≡ before)
+
+  -- a call that stays in its state
+  abbrev pub Performed : State → Parts E → Call → Answer → Parts E → Type 0
+  Performed state before call told after = Moved state before call told state after
 
   -- open: the answer, the fresh book where it is granted, and the parts as they were where it is refused
   pub record Opens (before : Parts E) (result : Result (OpenSheet E) (Denied (Parts E))) : Type 0 where
-    pub answered : Answers (open-asks (before .header .variables) (vec-len (before .table)) (vec-len (before .order))) (λ a. a ≡ granted []) (open-answer result)
+    pub answered : Answers (open-asks (before .header .variables) (vec-len (before .table)) (vec-len (before .order))) (λ a. a ≡ granted []) (moved-answer (λ _. []) result)
     pub outcome : Cases result
         (λ s. Stands (s .parts) × (book opened (s .parts) ≡ fresh admits (before .header .variables) (vec-len (before .table))))
         (λ d. d .back ≡ before)

@@ -22,6 +22,13 @@ pub struct OpenSheet<E> {
     pub parts: Parts<E>,
 }
 
+// A sheet that was settled by a division, which it carries.
+#[derive(Drop)]
+pub struct SettledSheet<E, D> {
+    pub parts: Parts<E>,
+    pub division: D,
+}
+
 // What was handed to a refused call, and why it was refused.
 #[derive(Drop)]
 pub struct Denied<T> {
