@@ -1,6 +1,7 @@
 // A guided tour: one task followed from beginning to end, each step told in words.
 mod bars;
 mod names;
+mod searching;
 mod sheet;
 mod terms;
 mod verdicts;
@@ -19,5 +20,7 @@ fn main(rt: LibcRuntime) -> io::Result<()> {
     let set = [term(3, 0), term(1, 1), term(0, 2)];
     terms::tell(&rt, &set)?;
     println!(rt)?;
-    sheet::tell(&rt, &set)
+    sheet::tell(&rt, &set)?;
+    println!(rt)?;
+    searching::tell(&rt, &set)
 }

@@ -6,4 +6,6 @@ mod comparing;
 #[cfg(test)]
 mod editing;
 #[cfg(test)]
+mod searching;
+#[cfg(test)]
 mod verdicts;

@@ -1,0 +1,12 @@
+pub mod Entries
+pub mod Listed
+pub mod Reached
+pub mod Orders
+pub mod Filling
+pub mod Testing
+pub mod Deadness
+pub mod Answered
+pub mod Writing
+pub mod Extending
+pub mod Walk
+pub mod Stepping
