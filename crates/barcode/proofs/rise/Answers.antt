@@ -14,6 +14,6 @@ returns-in-None g c = sym (rise_none _ _ _ _ (none_agreeing c.args.order.now c.a
 pub returns-then-low-high : goal.returns-then-low-high
 returns-then-low-high g c =
     let first = c.in-Some.ensures in
-    rise_here c.args.order.now c.args.variable (g.E.Element.shown c.args.u.now) (g.E.Element.shown c.args.w.now) c.in-Some.k c.exponent-of-low.result c.exponent-of-high.result
-    (c.if-k-here.false ∙ c.position-here.ensures.value) (c.if-not-same-family.ensures.0 refl) first.above
-    (c.exponent-of-low.ensures ∙ ap (λ xs. entry xs (at c.args.order.now c.in-Some.k)) c.exponents.ensures) (c.exponent-of-high.ensures ∙ ap (λ xs. entry xs (at c.args.order.now c.in-Some.k)) c.exponents-in-Some.ensures) c.if-low-high.true
+    rise_here c.args.order.now c.args.variable (g.E.Element.shown c.args.u.now) (g.E.Element.shown c.args.w.now) c.in-Some.k c.exponent_of-low.result c.exponent_of-high.result
+    (c.if-k-here.false ∙ c.position-here.ensures.value) (c.if-not-same_family.ensures.0 refl) first.above
+    (c.exponent_of-low.ensures ∙ ap (λ xs. entry xs (at c.args.order.now c.in-Some.k)) c.exponents.ensures) (c.exponent_of-high.ensures ∙ ap (λ xs. entry xs (at c.args.order.now c.in-Some.k)) c.exponents-in-Some.ensures) c.if-low-high.true

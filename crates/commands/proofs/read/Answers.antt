@@ -8,10 +8,10 @@ returns-in-empty c = record { reads = none_left _ (omega (arith, ltb-true)); onc
 
 pub returns-in-err-element : goal.returns-in-err-element
 returns-in-err-element c =
-    let out = err_from_is_err_and c.from-residual.result c.from-residual.ensures.1 in
+    let out = err_from_is_err_and c.from_residual.result c.from_residual.ensures.1 in
     let few = c.in-err-element.ensures in
     record {
-      reads = short_read _ 1 c.from-residual.result (out.1 ∙ ap Err (out.2 ∙ few.1)) (omega (arith, ltb-false)) (omega arith) (record { low = lit≤ tt; high = lit≤ tt }) few.0;
+      reads = short_read _ 1 c.from_residual.result (out.1 ∙ ap Err (out.2 ∙ few.1)) (omega (arith, ltb-false)) (omega arith) (record { low = lit≤ tt; high = lit≤ tt }) few.0;
       once = reading_has_one_outcome;
     }
 

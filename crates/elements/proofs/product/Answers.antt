@@ -2,10 +2,10 @@ use Rattle.std.proofs.Common.{◌≡◌, sym, ◌∙◌, arith, rules}
 use Rattle.elements.proofs.Terms.{overflows_at, product_written}
 use Rattle.elements.proofs.product.Goals as goal
 
-pub returns-in-err-sums : goal.returns-in-err-sums
-returns-in-err-sums g c =
-    rw c.from-residual.ensures
-    (overflows_at (g.E.Element.shown c.args.element.now) _ c.args.term.now c.exponents-sums.ensures c.loop-i.i _ (c.loop-i.invariant.2 c.loop-i.i (omega arith)) c.in-err-sums.ensures)
+pub returns-in_err-sums : goal.returns-in_err-sums
+returns-in_err-sums g c =
+    rw c.from_residual.ensures
+    (overflows_at (g.E.Element.shown c.args.element.now) _ c.args.term.now c.exponents-sums.ensures c.loop-i.i _ (c.loop-i.invariant.2 c.loop-i.i (omega arith)) c.in_err-sums.ensures)
 
 pub returns : goal.returns
 returns g c =

@@ -2,8 +2,8 @@ use Rattle.std.proofs.Common.{◌≡◌, length, refl, arith}
 use Rattle.elements.proofs.Terms.{place_of, quotient_written, quotient_back}
 use Rattle.elements.proofs.quotient.Goals as goal
 
-pub overflow-sub-term : goal.overflow-sub-term
-overflow-sub-term g c = place_of _ _ _ _ c.exponents-small.ensures c.exponents-large.ensures (c.if-not-divides.ensures.0 refl) c.loop-i.i
+pub overflow_sub-term : goal.overflow_sub-term
+overflow_sub-term g c = place_of _ _ _ _ c.exponents-small.ensures c.exponents-large.ensures (c.if-not-divides.ensures.0 refl) c.loop-i.i
 
 pub returns : goal.returns
 returns g c =

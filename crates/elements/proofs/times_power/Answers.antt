@@ -18,6 +18,6 @@ module _ {E : Type 0} (shown : E → Shown) (u : Shown) (v m : ℕ) where
 pub returns : goal.returns
 returns g c =
     record {
-      value = value_of g.E.Element.shown _ _ _ c.product.result _ c.in-ok-power.ensures c.product.ensures;
-      small = λ _ low l. some_of g.E.Element.shown _ _ _ c.product.result _ c.in-ok-power.ensures c.product.ensures low l;
+      value = value_of g.E.Element.shown _ _ _ c.product.result _ c.in_ok-power.ensures c.product.ensures;
+      small = λ _ low l. some_of g.E.Element.shown _ _ _ c.product.result _ c.in_ok-power.ensures c.product.ensures low l;
     }

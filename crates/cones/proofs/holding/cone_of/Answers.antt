@@ -5,11 +5,11 @@ use Rattle.cones.proofs.Divisors.{cones_are_disjoint, the_cone_is_of_the_greates
 use Rattle.cones.proofs.Reading.{in_cone_from, in_cone_to}
 use Rattle.cones.proofs.holding.cone_of.Goals as goal
 
-pub returns-then-in-cone : goal.returns-then-in-cone
-returns-then-in-cone g c = record {
+pub returns-then-in_cone : goal.returns-then-in_cone
+returns-then-in_cone g c = record {
   first = (
     in_cone_from g.E.Element.shown c.args.n c.args.rows.now c.args.limits.now c.loop-p.p _ _ c.loop-p-test.true c.index-rows-p.is c.limits_at.ensures _
-        (c.if-in-cone.ensures.0 refl),
+        (c.if-in_cone.ensures.0 refl),
     c.loop-p.invariant,
   );
   alone = cones_are_disjoint;
@@ -18,7 +18,7 @@ returns-then-in-cone g c = record {
 
 pub loop-p-preserved : goal.loop-p-preserved
 loop-p-preserved g c =
-    below_more _ _ c.loop-p.invariant (λ cone. not_from_Decides _ c.in-cone.ensures c.if-in-cone.false
+    below_more _ _ c.loop-p.invariant (λ cone. not_from_Decides _ c.in_cone.ensures c.if-in_cone.false
     (in_cone_to g.E.Element.shown c.args.n c.args.rows.now c.args.limits.now c.loop-p.p _ _ c.loop-p-test.true c.index-rows-p.is c.limits_at.ensures _ cone))
 
 pub returns : goal.returns

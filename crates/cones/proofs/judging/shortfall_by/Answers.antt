@@ -11,9 +11,9 @@ returns g c = record {
       let rows = map g.E.Element.shown c.args.rows.now in
       let k = length-map c.args.rows.now g.E.Element.shown in
       judged_by (g.D.Division.meaning c.args.division.now) (g.met.D.Division.lawful c.args.division.now) c.args.n rows c.args.order.now on
-      (limits_of c.limits-by-table.result)
-      (λ p v l low high. c.limits-by-table.ensures p v (omega arith) (omega (arith, on.few)) low high (omega (arith, on.variables.most)))
-      c.first-shortfall.result c.first-shortfall.ensures.first;
+      (limits_of c.limits_by-table.result)
+      (λ p v l low high. c.limits_by-table.ensures p v (omega arith) (omega (arith, on.few)) low high (omega (arith, on.variables.most)))
+      c.first_shortfall.result c.first_shortfall.ensures.first;
   separated = lawful_limits_are_separated;
   wider = janet_like_completes_what_any_division_completes;
 }

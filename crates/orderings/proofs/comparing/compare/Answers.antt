@@ -4,7 +4,7 @@ use Rattle.orderings.specs.Order.{VariableCount}
 use Rattle.orderings.proofs.Compared.{stands_from, compare_has_one_answer, swapping_mirrors_compare}
 use Rattle.orderings.proofs.Lines.{compare_is_a_total_order}
 use Rattle.orderings.proofs.comparing.compare.Goals as goal
-use Rattle.orderings.proofs.comparing.compare.Goals.{then-not-is-fit-via-then-not-is-fit, then-not-is-fit-via-else-not-is-fit+then-not-is-fit-2}
+use Rattle.orderings.proofs.comparing.compare.Goals.{then-not-is_fit-via-then-not-is_fit, then-not-is_fit-via-else-not-is_fit+then-not-is_fit-2}
 
 pub returns-then-n-lt1 : goal.returns-then-n-lt1
 returns-then-n-lt1 g c = record {
@@ -20,14 +20,14 @@ returns-then-n-lt1 g c = record {
   mirrored = swapping_mirrors_compare;
 }
 
-pub returns-then-not-is-fit : goal.returns-then-not-is-fit
-returns-then-not-is-fit g c = record {
+pub returns-then-not-is_fit : goal.returns-then-not-is_fit
+returns-then-not-is_fit g c = record {
   answers = inr (
-    record { some = c.if-n-lt1.false; most = c.if-n-gt-MOST-VARIABLES.false },
+    record { some = c.if-n-lt1.false; most = c.if-n-gt-MOST_VARIABLES.false },
     inl (
-      λ f. elim c.then-not-is-fit.branch [
-        | then-not-is-fit-via-then-not-is-fit w ↦ not_from_Decides _ c.is-fit.ensures w.if-not-is-fit.true f.0
-        | then-not-is-fit-via-else-not-is-fit+then-not-is-fit-2 w ↦ not_from_Decides _ w.is-fit-else-not-is-fit.ensures w.if-not-is-fit-2.true f.1
+      λ f. elim c.then-not-is_fit.branch [
+        | then-not-is_fit-via-then-not-is_fit w ↦ not_from_Decides _ c.is_fit.ensures w.if-not-is_fit.true f.0
+        | then-not-is_fit-via-else-not-is_fit+then-not-is_fit-2 w ↦ not_from_Decides _ w.is_fit-else-not-is_fit.ensures w.if-not-is_fit-2.true f.1
       ],
       refl,
     ),
@@ -37,13 +37,13 @@ returns-then-not-is-fit g c = record {
   mirrored = swapping_mirrors_compare;
 }
 
-pub returns-then-not-is-ordering : goal.returns-then-not-is-ordering
-returns-then-not-is-ordering g c = record {
+pub returns-then-not-is_ordering : goal.returns-then-not-is_ordering
+returns-then-not-is_ordering g c = record {
   answers = inr (
-    record { some = c.if-n-lt1.false; most = c.if-n-gt-MOST-VARIABLES.false },
+    record { some = c.if-n-lt1.false; most = c.if-n-gt-MOST_VARIABLES.false },
     inr (
-      (c.if-not-is-fit.ensures.0 refl, c.if-not-is-fit-2.ensures.0 refl),
-      inl (not_from_Decides _ c.is-ordering.ensures.test c.if-not-is-ordering.true, refl),
+      (c.if-not-is_fit.ensures.0 refl, c.if-not-is_fit-2.ensures.0 refl),
+      inl (not_from_Decides _ c.is_ordering.ensures.test c.if-not-is_ordering.true, refl),
     ),
   );
   total = compare_is_a_total_order;
@@ -53,12 +53,12 @@ returns-then-not-is-ordering g c = record {
 
 pub returns : goal.returns
 returns g c =
-    let o = c.if-not-is-ordering.ensures.test.0 refl in
-    let u = c.if-not-is-fit.ensures.0 refl in
-    let w = c.if-not-is-fit-2.ensures.0 refl in
+    let o = c.if-not-is_ordering.ensures.test.0 refl in
+    let u = c.if-not-is_fit.ensures.0 refl in
+    let w = c.if-not-is_fit-2.ensures.0 refl in
     record {
       answers = inr (
-        record { some = c.if-n-lt1.false; most = c.if-n-gt-MOST-VARIABLES.false },
+        record { some = c.if-n-lt1.false; most = c.if-n-gt-MOST_VARIABLES.false },
         inr ((u, w), inr (o, stands_from g.E.Element.admitted c.args.n c.args.order.now (g.E.Element.shown c.args.u.now) (g.E.Element.shown c.args.w.now) c.standing.result o u w c.standing.ensures)),
       );
       total = compare_is_a_total_order;

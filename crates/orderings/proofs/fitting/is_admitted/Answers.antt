@@ -10,7 +10,7 @@ returns g c =
     of_each (λ v x. (x ≤ 65535) × (c.args.n < v → x ≡ 0)) c.exponents-exponents.result n (λ v. (omega arith, λ l. refl)) (λ v low high. c.loop-v.invariant v low (omega arith)) in (
       λ _. record {
         family = ap g.E.Element.admitted (sym c.family.ensures) ∙ sym c.admits.ensures ∙ c.if-not-admits.false;
-        byte = omega (arith, c.family.type-inv, c.family.ensures);
+        byte = omega (arith, c.family.type_inv, c.family.ensures);
         eight = ap length (sym c.exponents-exponents.ensures) ∙ n;
         bound = λ v. rw (← c.exponents-exponents.ensures) (all v).0;
         unused = λ v l. rw (← c.exponents-exponents.ensures) ((all v).1 l);

@@ -9,7 +9,7 @@ returns g c =
     let all : (v : ℕ) → entry c.exponents-exponents.result v ≤ 4095 =
     of_each (λ v x. x ≤ 4095) c.exponents-exponents.result n (λ v. omega arith) (λ v low high. c.loop-variable.invariant v low (omega arith)) in (
       λ _. record {
-        admitted = c.if-not-is-admitted.ensures.0 refl;
+        admitted = c.if-not-is_admitted.ensures.0 refl;
         small = rw c.exponents-exponents.ensures at all;
       },
       λ _. refl,

@@ -24,18 +24,18 @@ returns-then-n-lt1 g c = record {
 pub walk-init : goal.walk-init
 walk-init g c = walking_start (g.met.D.Division.lawful c.args.division.now) (omega arith) (omega arith)
 
-pub clear-column-requires : goal.clear-column-requires
-clear-column-requires g c = pop_range (g.met.D.Division.lawful c.args.division.now) c.walk.invariant (c.walk.len - 1) (omega arith)
+pub clear_column-requires : goal.clear_column-requires
+clear_column-requires g c = pop_range (g.met.D.Division.lawful c.args.division.now) c.walk.invariant (c.walk.len - 1) (omega arith)
 
 pub walk-smaller-in-None : goal.walk-smaller-in-None
 walk-smaller-in-None g c = popped_less c.walk.invariant.stands (c.walk.len - 1) (omega arith) c.in-None.ensures
 
 pub walk-preserved-in-None : goal.walk-preserved-in-None
 walk-preserved-in-None g c =
-    walking_back (g.met.D.Division.lawful c.args.division.now) c.walk.invariant (c.walk.len - 1) (omega arith) c.in-None.ensures _ c.clear-column.ensures
+    walking_back (g.met.D.Division.lawful c.args.division.now) c.walk.invariant (c.walk.len - 1) (omega arith) c.in-None.ensures _ c.clear_column.ensures
 
-pub overflow-add-tested : goal.overflow-add-tested
-overflow-add-tested g c = omega (arith, bounded c.walk.invariant.stands)
+pub overflow_add-tested : goal.overflow_add-tested
+overflow_add-tested g c = omega (arith, bounded c.walk.invariant.stands)
 
 pub extend-requires : goal.extend-requires
 extend-requires g c =
@@ -48,8 +48,8 @@ extend-requires g c =
       zeros = asked_zeros stands c.in-Some.x c.in-Some.ensures;
     }
 
-pub clear-column-requires-then-not-extend : goal.clear-column-requires-then-not-extend
-clear-column-requires-then-not-extend g c =
+pub clear_column-requires-then-not-extend : goal.clear_column-requires-then-not-extend
+clear_column-requires-then-not-extend g c =
     next_range (g.met.D.Division.lawful c.args.division.now) c.walk.invariant c.in-Some.x c.in-Some.ensures
 
 pub walk-smaller-then-not-extend : goal.walk-smaller-then-not-extend
@@ -57,7 +57,7 @@ walk-smaller-then-not-extend g c = dead_less c.walk.invariant.stands c.in-Some.x
 
 pub walk-preserved-then-not-extend : goal.walk-preserved-then-not-extend
 walk-preserved-then-not-extend g c =
-    walking_dead (g.met.D.Division.lawful c.args.division.now) c.walk.invariant c.in-Some.x c.in-Some.ensures _ _ c.if-not-extend.ensures refl _ c.clear-column-then-not-extend.ensures
+    walking_dead (g.met.D.Division.lawful c.args.division.now) c.walk.invariant c.in-Some.x c.in-Some.ensures _ _ c.if-not-extend.ensures refl _ c.clear_column-then-not-extend.ensures
 
 pub walk-smaller : goal.walk-smaller
 walk-smaller g c = deeper_less c.walk.invariant.stands c.in-Some.x c.in-Some.ensures (omega arith)
