@@ -10,14 +10,14 @@ returns-then-not-same g c = (
   λ e. absurd (false≢true e),
   λ all. absurd
       (row_differs g.E.Element.shown g.met.E.Element.known c.args.places.now c.loop-p.p _ _ _ c.loop-p-test.true c.index-places-p.is
-      (sym c.blank-nothing-here.ensures) (not_from_Decides _ c.same.ensures c.if-not-same.true) (all c.loop-p.p)),
+      (sym c.blank-nothing_here.ensures) (not_from_Decides _ c.same.ensures c.if-not-same.true) (all c.loop-p.p)),
 )
 
 pub loop-p-preserved : goal.loop-p-preserved
 loop-p-preserved g c =
     below_more _ _ c.loop-p.invariant
     (row_read g.E.Element.shown c.args.places.now c.loop-p.p _ c.loop-p-test.true c.index-places-p.is ∙
-    ap g.E.Element.shown (c.if-not-same.ensures.0 refl) ∙ c.blank-nothing-here.ensures)
+    ap g.E.Element.shown (c.if-not-same.ensures.0 refl) ∙ c.blank-nothing_here.ensures)
 
 pub returns : goal.returns
 returns g c = (

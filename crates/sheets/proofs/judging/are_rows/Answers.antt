@@ -5,16 +5,16 @@ use Rattle.std.proofs.lemmas.Bool.Decides.{not_from_Decides}
 use Rattle.orderings.specs.Fit.{Fit}
 use Rattle.orderings.proofs.Places.{row_read}
 use Rattle.sheets.proofs.judging.are_rows.Goals as goal
-use Rattle.sheets.proofs.judging.are_rows.Goals.{then-not-is-fit-via-then-not-is-fit, then-not-is-fit-via-else-not-is-fit+then-repeats}
+use Rattle.sheets.proofs.judging.are_rows.Goals.{then-not-is_fit-via-then-not-is_fit, then-not-is_fit-via-else-not-is_fit+then-repeats}
 
-pub returns-then-not-is-fit : goal.returns-then-not-is-fit
-returns-then-not-is-fit g c =
+pub returns-then-not-is_fit : goal.returns-then-not-is_fit
+returns-then-not-is_fit g c =
     let n = length-map c.args.rows.now g.E.Element.shown in (
       λ e. absurd (false≢true e),
-      λ rows. absurd (elim c.then-not-is-fit.branch [
-        | then-not-is-fit-via-then-not-is-fit w ↦ not_from_Decides _ c.is-fit.ensures w.if-not-is-fit.true
+      λ rows. absurd (elim c.then-not-is_fit.branch [
+        | then-not-is_fit-via-then-not-is_fit w ↦ not_from_Decides _ c.is_fit.ensures w.if-not-is_fit.true
             (rw (row_read g.E.Element.shown c.args.rows.now c.loop-p.p c.index-rows-p.result c.loop-p-test.true c.index-rows-p.is) at (rows.fit c.loop-p.p (omega (arith, c.loop-p-test.true, n))))
-        | then-not-is-fit-via-else-not-is-fit+then-repeats w ↦
+        | then-not-is_fit-via-else-not-is_fit+then-repeats w ↦
             (let (k, l, e) = w.repeats.ensures.0 w.if-repeats.true in rows.different k c.loop-p.p l (omega (arith, c.loop-p-test.true, n)) e)
       ]),
     )
@@ -22,7 +22,7 @@ returns-then-not-is-fit g c =
 pub loop-p-preserved : goal.loop-p-preserved
 loop-p-preserved g c =
     below_more _ _ c.loop-p.invariant (
-      rw (row_read g.E.Element.shown c.args.rows.now c.loop-p.p c.index-rows-p.result c.loop-p-test.true c.index-rows-p.is) (c.if-not-is-fit.ensures.0 refl),
+      rw (row_read g.E.Element.shown c.args.rows.now c.loop-p.p c.index-rows-p.result c.loop-p-test.true c.index-rows-p.is) (c.if-not-is_fit.ensures.0 refl),
       λ k l e. not_from_Decides _ c.repeats.ensures c.if-repeats.false (k, l, e),
     )
 

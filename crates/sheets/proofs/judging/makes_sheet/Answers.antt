@@ -26,45 +26,45 @@ returns-then-n-lt1 g c =
       fixed = a_book_fixes_its_sheet g.E.Element.admitted g.E.Element.shown g.met.E.Element.known;
     }
 
-pub returns-then-are-rows : goal.returns-then-are-rows
-returns-then-are-rows g c =
+pub returns-then-are_rows : goal.returns-then-are_rows
+returns-then-are_rows g c =
     let shown = g.E.Element.shown in
     let p = c.args.parts.now in
     let n = length-map (vec_items p.table) shown in
     let k : vec_len p.table ≡ length (vec_items p.table) = p.table.ok.0 in
     let e = c.deref-2.ensures.value in
-    let f = c.deref-then-are-rows.ensures.value in
+    let f = c.deref-then-are_rows.ensures.value in
     let l : c.len-places.result ≡ length (vec_items p.table) = c.len-places.ensures ∙ k in
-    let a = c.if-are-rows.ensures.0 refl in
+    let a = c.if-are_rows.ensures.0 refl in
     record {
       test = (
         λ t. record {
-          variables = record { some = c.if-n-lt1.false; most = c.if-n-gt-MOST-VARIABLES.false };
-          places = record { some = omega (arith, c.if-places-lt1.false); most = omega (arith, c.if-places-gt-MOST-PLACES.false) };
+          variables = record { some = c.if-n-lt1.false; most = c.if-n-gt-MOST_VARIABLES.false };
+          places = record { some = omega (arith, c.if-places-lt1.false); most = omega (arith, c.if-places-gt-MOST_PLACES.false) };
           room = omega (arith, c.if-count-places.false);
-          ordered = rw c.deref.ensures.value at (c.if-not-is-ordering.ensures.test.0 refl);
+          ordered = rw c.deref.ensures.value at (c.if-not-is_ordering.ensures.test.0 refl);
           rows = rw (front_part shown (vec_items p.table) _ p.header.rows e) at a;
-          blanks = blanks_from shown (vec_items p.table) _ p.header.rows _ f l (c.are-blank.ensures.0 t);
+          blanks = blanks_from shown (vec_items p.table) _ p.header.rows _ f l (c.are_blank.ensures.0 t);
         },
-        λ m. c.are-blank.ensures.1 (blanks_to shown (vec_items p.table) _ p.header.rows _ f l m.blanks),
+        λ m. c.are_blank.ensures.1 (blanks_to shown (vec_items p.table) _ p.header.rows _ f l m.blanks),
       );
       fixed = a_book_fixes_its_sheet g.E.Element.admitted g.E.Element.shown g.met.E.Element.known;
     }
 
-pub returns-else-are-rows : goal.returns-else-are-rows
-returns-else-are-rows g c =
+pub returns-else-are_rows : goal.returns-else-are_rows
+returns-else-are_rows g c =
     let shown = g.E.Element.shown in
     let p = c.args.parts.now in
     record {
       test = (
-        λ t. absurd (true≢false (sym t ∙ c.if-are-rows.false)),
+        λ t. absurd (true≢false (sym t ∙ c.if-are_rows.false)),
         λ m. c.are_rows.ensures.1 (rw (front_part shown (vec_items p.table) _ p.header.rows c.deref-2.ensures.value) m.rows),
       );
       fixed = a_book_fixes_its_sheet g.E.Element.admitted g.E.Element.shown g.met.E.Element.known;
     }
 
-pub returns-then-not-is-ordering : goal.returns-then-not-is-ordering
-returns-then-not-is-ordering g c = record {
-  test = (λ e. absurd (false≢true e), λ m. absurd (not_from_Decides _ c.is-ordering.ensures.test c.if-not-is-ordering.true (rw c.deref.ensures.value m.ordered)));
+pub returns-then-not-is_ordering : goal.returns-then-not-is_ordering
+returns-then-not-is_ordering g c = record {
+  test = (λ e. absurd (false≢true e), λ m. absurd (not_from_Decides _ c.is_ordering.ensures.test c.if-not-is_ordering.true (rw c.deref.ensures.value m.ordered)));
   fixed = a_book_fixes_its_sheet g.E.Element.admitted g.E.Element.shown g.met.E.Element.known;
 }

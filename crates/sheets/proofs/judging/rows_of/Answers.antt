@@ -3,8 +3,8 @@ use Rattle.std.proofs.lemmas.List.{length-map, length-take-le}
 use Rattle.sheets.proofs.Tables.{front_part}
 use Rattle.sheets.proofs.judging.rows_of.Goals as goal
 
-pub slice-bounds-result-end : goal.slice-bounds-result-end
-slice-bounds-result-end g c =
+pub slice_bounds-result-end : goal.slice_bounds-result-end
+slice_bounds-result-end g c =
     let p = c.args.parts.now in
     omega (arith, c.requires.room, length-map (vec_items p.table) g.E.Element.shown, ap length c.deref.ensures.value)
 
