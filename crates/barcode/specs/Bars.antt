@@ -1,6 +1,6 @@
 -- The Bar Code of rows under an ordering: bars, which of two is lower, their numbers, stars. Assumes nothing.
 use Rattle.std.specs.Prelude.{◌≡◌, ℕ, zero, suc, ◌<◌, ◌≤◌, Bool, true, false, cond, not, ◌&&◌, ◌||◌, ◌⊎◌, List, [], ◌∷◌, length, take, filter, ◌==◌, nat_lt}
-use Rattle.std.specs.List.{range_with_len, AllByRecursion as All}
+use Rattle.std.specs.List.{range_with_len, AllByRecursion}
 use Rattle.elements.specs.Element.{Shown, exponent}
 use Rattle.orderings.specs.Order.{at, Agree, PartAt}
 use Rattle.orderings.specs.Rows.{row}
@@ -64,7 +64,7 @@ Among x (y ∷ ys) = (x ≡ y) ⊎ Among x ys
 
 abbrev pub Increasing : List ℕ → Type 0
 Increasing [] = Unit {0}
-Increasing (x ∷ xs) = All (λ y. x < y) xs × Increasing xs
+Increasing (x ∷ xs) = AllByRecursion (λ y. x < y) xs × Increasing xs
 
 -- places of rows that stand for all the different bars of v that are lower than u's: one row for each
 pub record Represent (rows : List Shown) (order : List ℕ) (u : Shown) (v : ℕ) (bars : List ℕ) : Type 0 where

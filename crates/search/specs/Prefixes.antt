@@ -1,6 +1,6 @@
 -- Prefixes of orderings, and their listing. Assumes nothing.
 use Rattle.std.specs.Prelude.{◌≡◌, ℕ, zero, suc, ◌-◌, ◌<◌, ◌≤◌, Bool, false, not, ◌||◌, ◌⊎◌, List, [], ◌∷◌, ◌++◌, length, replicate, filter, ◌==◌}
-use Rattle.std.specs.List.{AllByRecursion as All}
+use Rattle.std.specs.List.{AllByRecursion}
 
 -- the k numbers after m, in order
 abbrev pub after : ℕ → ℕ → List ℕ
@@ -23,7 +23,7 @@ Apart (x ∷ xs) = (has x xs ≡ false) × Apart xs
 
 -- distinct numbers of 1 to n
 pub record Entries (n : ℕ) (q : List ℕ) : Type 0 where
-  pub range : All (λ x. (1 ≤ x) × (x ≤ n)) q
+  pub range : AllByRecursion (λ x. (1 ≤ x) × (x ≤ n)) q
   pub apart : Apart q
 
 -- a prefix of an ordering of n variables: 1 to n of them, the greatest first
@@ -42,7 +42,7 @@ Before (x ∷ xs) (y ∷ ys) = (x < y) ⊎ ((x ≡ y) × Before xs ys)
 -- each stands in the relation to all that follow it
 abbrev pub Sorted : {X : Type 0} → (X → X → Type 0) → List X → Type 0
 Sorted R [] = Unit {0}
-Sorted R (x ∷ xs) = All (R x) xs × Sorted R xs
+Sorted R (x ∷ xs) = AllByRecursion (R x) xs × Sorted R xs
 
 abbrev pub Among : {X : Type 0} → X → List X → Type 0
 Among x [] = ⊥
@@ -64,7 +64,7 @@ prefixes n = extensions n n []
 
 -- a list has the prefixes of n, all of them and nothing else, in order
 pub record Lists (n : ℕ) (ps : List (List ℕ)) : Type 0 where
-  pub only : All (Prefix n) ps
+  pub only : AllByRecursion (Prefix n) ps
   pub all : (p : List ℕ) → Prefix n p → Among p ps
   pub order : Sorted Before ps
 

@@ -6,117 +6,117 @@ use Rattle.commands.proofs.read.Goals as goal
 pub returns-in-empty : goal.returns-in-empty
 returns-in-empty c = record { reads = none_left _ (omega (arith, ltb-true)); once = reading_has_one_outcome }
 
-pub returns-in-err-element : goal.returns-in-err-element
-returns-in-err-element c =
+pub returns-in_err-element-in-1 : goal.returns-in_err-element-in-1
+returns-in_err-element-in-1 c =
     let out = err_from_is_err_and c.from_residual.result c.from_residual.ensures.1 in
-    let few = c.in-err-element.ensures in
+    let few = c.in_err-element-in-1.ensures in
     record {
       reads = short_read _ 1 c.from_residual.result (out.1 ∙ ap Err (out.2 ∙ few.1)) (omega (arith, ltb-false)) (omega arith) (record { low = lit≤ tt; high = lit≤ tt }) few.0;
       once = reading_has_one_outcome;
     }
 
-pub returns-in-ok-element : goal.returns-in-ok-element
-returns-in-ok-element c = record {
-  reads = whole_from _ 1 _ _ (omega (arith, ltb-false)) (omega arith) (record { low = lit≤ tt; high = lit≤ tt }) c.in-ok-element.ensures;
+pub returns-in_ok-element-in-1 : goal.returns-in_ok-element-in-1
+returns-in_ok-element-in-1 c = record {
+  reads = whole_from _ 1 _ _ (omega (arith, ltb-false)) (omega arith) (record { low = lit≤ tt; high = lit≤ tt }) c.in_ok-element-in-1.ensures;
   once = reading_has_one_outcome;
 }
 
-pub returns-in-err-element-2 : goal.returns-in-err-element-2
-returns-in-err-element-2 c =
-    let out = err_from_is_err_and c.from-residual-in-err-element-2.result c.from-residual-in-err-element-2.ensures.1 in
-    let few = c.in-err-element-2.ensures in
+pub returns-in_err-element-in-2 : goal.returns-in_err-element-in-2
+returns-in_err-element-in-2 c =
+    let out = err_from_is_err_and c.from_residual-in_err-element-in-2.result c.from_residual-in_err-element-in-2.ensures.1 in
+    let few = c.in_err-element-in-2.ensures in
     record {
-      reads = short_read _ 2 c.from-residual-in-err-element-2.result (out.1 ∙ ap Err (out.2 ∙ few.1)) (omega (arith, ltb-false)) (omega arith) (record { low = lit≤ tt; high = lit≤ tt }) few.0;
+      reads = short_read _ 2 c.from_residual-in_err-element-in-2.result (out.1 ∙ ap Err (out.2 ∙ few.1)) (omega (arith, ltb-false)) (omega arith) (record { low = lit≤ tt; high = lit≤ tt }) few.0;
       once = reading_has_one_outcome;
     }
 
-pub returns-in-ok-element-2 : goal.returns-in-ok-element-2
-returns-in-ok-element-2 c = record {
-  reads = whole_from _ 2 _ _ (omega (arith, ltb-false)) (omega arith) (record { low = lit≤ tt; high = lit≤ tt }) c.in-ok-element-2.ensures;
+pub returns-in_ok-element-in-2 : goal.returns-in_ok-element-in-2
+returns-in_ok-element-in-2 c = record {
+  reads = whole_from _ 2 _ _ (omega (arith, ltb-false)) (omega arith) (record { low = lit≤ tt; high = lit≤ tt }) c.in_ok-element-in-2.ensures;
   once = reading_has_one_outcome;
 }
 
-pub returns-in-err-order : goal.returns-in-err-order
-returns-in-err-order c =
-    let out = err_from_is_err_and c.from-residual-in-err-order.result c.from-residual-in-err-order.ensures.1 in
-    let few = c.in-err-order.ensures in
+pub returns-in_err-order-in-3 : goal.returns-in_err-order-in-3
+returns-in_err-order-in-3 c =
+    let out = err_from_is_err_and c.from_residual-in_err-order-in-3.result c.from_residual-in_err-order-in-3.ensures.1 in
+    let few = c.in_err-order-in-3.ensures in
     record {
-      reads = short_read _ 3 c.from-residual-in-err-order.result (out.1 ∙ ap Err (out.2 ∙ few.1)) (omega (arith, ltb-false)) (omega arith) (record { low = lit≤ tt; high = lit≤ tt }) few.0;
+      reads = short_read _ 3 c.from_residual-in_err-order-in-3.result (out.1 ∙ ap Err (out.2 ∙ few.1)) (omega (arith, ltb-false)) (omega arith) (record { low = lit≤ tt; high = lit≤ tt }) few.0;
       once = reading_has_one_outcome;
     }
 
-pub returns-in-ok-order : goal.returns-in-ok-order
-returns-in-ok-order c = record {
-  reads = whole_from _ 3 _ _ (omega (arith, ltb-false)) (omega arith) (record { low = lit≤ tt; high = lit≤ tt }) c.in-ok-order.ensures;
+pub returns-in_ok-order-in-3 : goal.returns-in_ok-order-in-3
+returns-in_ok-order-in-3 c = record {
+  reads = whole_from _ 3 _ _ (omega (arith, ltb-false)) (omega arith) (record { low = lit≤ tt; high = lit≤ tt }) c.in_ok-order-in-3.ensures;
   once = reading_has_one_outcome;
 }
 
-pub returns-in-err-division : goal.returns-in-err-division
-returns-in-err-division c =
-    let out = err_from_is_err_and c.from-residual-in-err-division.result c.from-residual-in-err-division.ensures.1 in
-    let few = c.in-err-division.ensures in
+pub returns-in_err-division-in-4 : goal.returns-in_err-division-in-4
+returns-in_err-division-in-4 c =
+    let out = err_from_is_err_and c.from_residual-in_err-division-in-4.result c.from_residual-in_err-division-in-4.ensures.1 in
+    let few = c.in_err-division-in-4.ensures in
     record {
-      reads = short_read _ 4 c.from-residual-in-err-division.result (out.1 ∙ ap Err (out.2 ∙ few.1)) (omega (arith, ltb-false)) (omega arith) (record { low = lit≤ tt; high = lit≤ tt }) (few_none _ _ few.0 (lit< tt));
+      reads = short_read _ 4 c.from_residual-in_err-division-in-4.result (out.1 ∙ ap Err (out.2 ∙ few.1)) (omega (arith, ltb-false)) (omega arith) (record { low = lit≤ tt; high = lit≤ tt }) (few_none _ _ few.0 (lit< tt));
       once = reading_has_one_outcome;
     }
 
-pub returns-in-ok-division : goal.returns-in-ok-division
-returns-in-ok-division c = record {
-  reads = whole_from _ 4 _ _ (omega (arith, ltb-false)) (omega arith) (record { low = lit≤ tt; high = lit≤ tt }) (parted_one _ _ _ c.in-ok-division.ensures);
+pub returns-in_ok-division-in-4 : goal.returns-in_ok-division-in-4
+returns-in_ok-division-in-4 c = record {
+  reads = whole_from _ 4 _ _ (omega (arith, ltb-false)) (omega arith) (record { low = lit≤ tt; high = lit≤ tt }) (parted_one _ _ _ c.in_ok-division-in-4.ensures);
   once = reading_has_one_outcome;
 }
 
-pub returns-in-err-division-2 : goal.returns-in-err-division-2
-returns-in-err-division-2 c =
-    let out = err_from_is_err_and c.from-residual-in-err-division-2.result c.from-residual-in-err-division-2.ensures.1 in
-    let few = c.in-err-division-2.ensures in
+pub returns-in_err-division-in-5 : goal.returns-in_err-division-in-5
+returns-in_err-division-in-5 c =
+    let out = err_from_is_err_and c.from_residual-in_err-division-in-5.result c.from_residual-in_err-division-in-5.ensures.1 in
+    let few = c.in_err-division-in-5.ensures in
     record {
-      reads = short_read _ 5 c.from-residual-in-err-division-2.result (out.1 ∙ ap Err (out.2 ∙ few.1)) (omega (arith, ltb-false)) (omega arith) (record { low = lit≤ tt; high = lit≤ tt }) (few_none _ _ few.0 (lit< tt));
+      reads = short_read _ 5 c.from_residual-in_err-division-in-5.result (out.1 ∙ ap Err (out.2 ∙ few.1)) (omega (arith, ltb-false)) (omega arith) (record { low = lit≤ tt; high = lit≤ tt }) (few_none _ _ few.0 (lit< tt));
       once = reading_has_one_outcome;
     }
 
-pub returns-in-err-order-2 : goal.returns-in-err-order-2
-returns-in-err-order-2 c =
-    let out = err_from_is_err_and c.from-residual-in-err-order-2.result c.from-residual-in-err-order-2.ensures.1 in
-    let few = c.in-err-order-2.ensures in
+pub returns-in_err-order-in-5 : goal.returns-in_err-order-in-5
+returns-in_err-order-in-5 c =
+    let out = err_from_is_err_and c.from_residual-in_err-order-in-5.result c.from_residual-in_err-order-in-5.ensures.1 in
+    let few = c.in_err-order-in-5.ensures in
     record {
-      reads = short_read _ 5 c.from-residual-in-err-order-2.result (out.1 ∙ ap Err (out.2 ∙ few.1)) (omega (arith, ltb-false)) (omega arith) (record { low = lit≤ tt; high = lit≤ tt }) (few_more _ _ _ c.in-ok-division-2.ensures few.0);
+      reads = short_read _ 5 c.from_residual-in_err-order-in-5.result (out.1 ∙ ap Err (out.2 ∙ few.1)) (omega (arith, ltb-false)) (omega arith) (record { low = lit≤ tt; high = lit≤ tt }) (few_more _ _ _ c.in_ok-division-in-5.ensures few.0);
       once = reading_has_one_outcome;
     }
 
-pub returns-in-ok-order-2 : goal.returns-in-ok-order-2
-returns-in-ok-order-2 c = record {
-  reads = whole_from _ 5 _ _ (omega (arith, ltb-false)) (omega arith) (record { low = lit≤ tt; high = lit≤ tt }) (parted_more _ _ _ _ _ c.in-ok-division-2.ensures c.in-ok-order-2.ensures);
+pub returns-in_ok-order-in-5 : goal.returns-in_ok-order-in-5
+returns-in_ok-order-in-5 c = record {
+  reads = whole_from _ 5 _ _ (omega (arith, ltb-false)) (omega arith) (record { low = lit≤ tt; high = lit≤ tt }) (parted_more _ _ _ _ _ c.in_ok-division-in-5.ensures c.in_ok-order-in-5.ensures);
   once = reading_has_one_outcome;
 }
 
-pub returns-in-err-division-3 : goal.returns-in-err-division-3
-returns-in-err-division-3 c =
-    let out = err_from_is_err_and c.from-residual-in-err-division-3.result c.from-residual-in-err-division-3.ensures.1 in
-    let few = c.in-err-division-3.ensures in
+pub returns-in_err-division-in-6 : goal.returns-in_err-division-in-6
+returns-in_err-division-in-6 c =
+    let out = err_from_is_err_and c.from_residual-in_err-division-in-6.result c.from_residual-in_err-division-in-6.ensures.1 in
+    let few = c.in_err-division-in-6.ensures in
     record {
-      reads = short_read _ 6 c.from-residual-in-err-division-3.result (out.1 ∙ ap Err (out.2 ∙ few.1)) (omega (arith, ltb-false)) (omega arith) (record { low = lit≤ tt; high = lit≤ tt }) (few_none _ _ few.0 (lit< tt));
+      reads = short_read _ 6 c.from_residual-in_err-division-in-6.result (out.1 ∙ ap Err (out.2 ∙ few.1)) (omega (arith, ltb-false)) (omega arith) (record { low = lit≤ tt; high = lit≤ tt }) (few_none _ _ few.0 (lit< tt));
       once = reading_has_one_outcome;
     }
 
-pub returns-in-ok-division-3 : goal.returns-in-ok-division-3
-returns-in-ok-division-3 c = record {
-  reads = whole_from _ 6 _ _ (omega (arith, ltb-false)) (omega arith) (record { low = lit≤ tt; high = lit≤ tt }) (parted_one _ _ _ c.in-ok-division-3.ensures);
+pub returns-in_ok-division-in-6 : goal.returns-in_ok-division-in-6
+returns-in_ok-division-in-6 c = record {
+  reads = whole_from _ 6 _ _ (omega (arith, ltb-false)) (omega arith) (record { low = lit≤ tt; high = lit≤ tt }) (parted_one _ _ _ c.in_ok-division-in-6.ensures);
   once = reading_has_one_outcome;
 }
 
-pub returns-in-err-element-3 : goal.returns-in-err-element-3
-returns-in-err-element-3 c =
-    let out = err_from_is_err_and c.from-residual-in-err-element-3.result c.from-residual-in-err-element-3.ensures.1 in
-    let few = c.in-err-element-3.ensures in
+pub returns-in_err-element-in-7 : goal.returns-in_err-element-in-7
+returns-in_err-element-in-7 c =
+    let out = err_from_is_err_and c.from_residual-in_err-element-in-7.result c.from_residual-in_err-element-in-7.ensures.1 in
+    let few = c.in_err-element-in-7.ensures in
     record {
-      reads = short_read _ 7 c.from-residual-in-err-element-3.result (out.1 ∙ ap Err (out.2 ∙ few.1)) (omega (arith, ltb-false)) (omega arith) (record { low = lit≤ tt; high = lit≤ tt }) few.0;
+      reads = short_read _ 7 c.from_residual-in_err-element-in-7.result (out.1 ∙ ap Err (out.2 ∙ few.1)) (omega (arith, ltb-false)) (omega arith) (record { low = lit≤ tt; high = lit≤ tt }) few.0;
       once = reading_has_one_outcome;
     }
 
-pub returns-in-ok-element-3 : goal.returns-in-ok-element-3
-returns-in-ok-element-3 c = record {
-  reads = whole_from _ 7 _ _ (omega (arith, ltb-false)) (omega arith) (record { low = lit≤ tt; high = lit≤ tt }) c.in-ok-element-3.ensures;
+pub returns-in_ok-element-in-7 : goal.returns-in_ok-element-in-7
+returns-in_ok-element-in-7 c = record {
+  reads = whole_from _ 7 _ _ (omega (arith, ltb-false)) (omega arith) (record { low = lit≤ tt; high = lit≤ tt }) c.in_ok-element-in-7.ensures;
   once = reading_has_one_outcome;
 }
 

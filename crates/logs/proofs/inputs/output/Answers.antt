@@ -8,7 +8,7 @@ use Rattle.logs.proofs.inputs.output.Goals as goal
 pub returns-in-err-told : goal.returns-in-err-told
 returns-in-err-told c =
     record {
-      printed = unmade_of (λ text. Prints c.args.input.now (string_bytes text)) c.from-residual.result c.from-residual.ensures.0;
+      printed = unmade_of (λ text. Prints c.args.input.now (string_bytes text)) c.from_residual.result c.from_residual.ensures.0;
       law = every_log_is_a_run_under_the_law;
       once = an_input_has_one_output;
     }

@@ -19,7 +19,7 @@ loop-call-preserved g c =
     let s = c.step-next.ensures in (
       s.stands st,
       run_more (call_of g.E.Element.shown g.D.Division.meaning) (answer_of g.E.Element.shown) _ c.args.calls.now c.loop-call.call-index c.call-item.result
-          (vec_items c.loop-call.replies) (vec_items c.push.new.self) c.step-next.result.1 (omega arith) c.call-item.is c.in-ok-push.ensures.items
+          (vec_items c.loop-call.replies) (vec_items c.push.new.self) c.step-next.result.1 (omega arith) c.call-item.is c.in_ok-push.ensures.items
           c.loop-call.invariant.1 (s.answered st) (s.follows st),
     )
 
@@ -37,5 +37,5 @@ returns g c =
       law = every_run_keeps_the_law;
     }
 
-pub returns-in-err-push : goal.returns-in-err-push
-returns-in-err-push g c = record { run = unmade_of (Replays g.E.Element.admitted g.E.Element.shown g.D.Division.meaning c.args.parts c.args.calls.now) c.from-residual.result c.from-residual.ensures.0; fresh = a_fresh_book_is_sound; sound = every_call_keeps_books_sound; kept = a_sound_book_keeps_the_law; once = a_call_has_one_outcome; law = every_run_keeps_the_law }
+pub returns-in_err-push : goal.returns-in_err-push
+returns-in_err-push g c = record { run = unmade_of (Replays g.E.Element.admitted g.E.Element.shown g.D.Division.meaning c.args.parts c.args.calls.now) c.from_residual.result c.from_residual.ensures.0; fresh = a_fresh_book_is_sound; sound = every_call_keeps_books_sound; kept = a_sound_book_keeps_the_law; once = a_call_has_one_outcome; law = every_run_keeps_the_law }

@@ -24,17 +24,17 @@ returns-in-Arrange g c =
 pub returns-in-Bar : goal.returns-in-Bar
 returns-in-Bar g c =
     open_step g.E.Element.admitted g.E.Element.shown g.D.Division.meaning g.met.D.Division.lawful (Open c.args.sheet) c.args.sheet c.args.sheet c.args.request.now (Bar c.in-Bar.place c.in-Bar.variable) c.barred.result _
-    refl c.in-Bar.is c.barred.ensures.answer tt c.bar_told.ensures c.barred.ensures.form
+    refl c.in-Bar.is c.barred.ensures.answer tt c.bar-told.ensures c.barred.ensures.form
 
 pub returns-in-Limit : goal.returns-in-Limit
 returns-in-Limit g c =
     open_step g.E.Element.admitted g.E.Element.shown g.D.Division.meaning g.met.D.Division.lawful (Open c.args.sheet) c.args.sheet c.args.sheet c.args.request.now (Limit c.in-Limit.d c.in-Limit.place c.in-Limit.variable) c.limited.result _
-    refl c.in-Limit.is c.limited.ensures.answer tt c.limit_told.ensures c.limited.ensures.form
+    refl c.in-Limit.is c.limited.ensures.answer tt c.limit-told.ensures c.limited.ensures.form
 
 pub returns-in-Verdict : goal.returns-in-Verdict
 returns-in-Verdict g c =
     open_step g.E.Element.admitted g.E.Element.shown g.D.Division.meaning g.met.D.Division.lawful (Open c.args.sheet) c.args.sheet c.args.sheet c.args.request.now (Verdict c.in-Verdict.d) c.judged.result _
-    refl c.in-Verdict.is c.judged.ensures.answer tt c.verdict_told.ensures c.judged.ensures.form
+    refl c.in-Verdict.is c.judged.ensures.answer tt c.verdict-told.ensures c.judged.ensures.form
 
 pub returns-in-Weigh : goal.returns-in-Weigh
 returns-in-Weigh g c =
