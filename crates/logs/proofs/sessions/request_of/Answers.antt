@@ -9,13 +9,13 @@ use Rattle.logs.proofs.sessions.request_of.Goals as goal
 
 pub returns-in-Open-Insert : goal.returns-in-Open-Insert
 returns-in-Open-Insert g c =
-    decided g.E.Element.shown c.args.sheet.now (Open c.in-Open-Insert.field-0-0) c.args.command.now (Insert c.in-Open-Insert.element) (Ok (to_insert c.element-of.result)) c.in-Open-Insert.is-0 c.in-Open-Insert.is-1
-    (omega arith, rw c.element-of.ensures inserts)
+    decided g.E.Element.shown c.args.sheet.now (Open c.in-Open-Insert.field-0-0) c.args.command.now (Insert c.in-Open-Insert.element) (Ok (to_insert c.element_of.result)) c.in-Open-Insert.is-0 c.in-Open-Insert.is-1
+    (omega arith, rw c.element_of.ensures inserts)
 
 pub returns-in-Open-Withdraw : goal.returns-in-Open-Withdraw
 returns-in-Open-Withdraw g c =
-    decided g.E.Element.shown c.args.sheet.now (Open c.in-Open-Withdraw.field-0-0) c.args.command.now (Withdraw c.in-Open-Withdraw.element) (Ok (to_withdraw c.element-of-in-Open-Withdraw.result)) c.in-Open-Withdraw.is-0 c.in-Open-Withdraw.is-1
-    (omega arith, rw c.element-of-in-Open-Withdraw.ensures withdraws)
+    decided g.E.Element.shown c.args.sheet.now (Open c.in-Open-Withdraw.field-0-0) c.args.command.now (Withdraw c.in-Open-Withdraw.element) (Ok (to_withdraw c.element_of-in-Open-Withdraw.result)) c.in-Open-Withdraw.is-0 c.in-Open-Withdraw.is-1
+    (omega arith, rw c.element_of-in-Open-Withdraw.ensures withdraws)
 
 pub returns-in-Open-Arrange : goal.returns-in-Open-Arrange
 returns-in-Open-Arrange g c =
@@ -54,8 +54,8 @@ returns-in-None-numbered-2 g c =
 
 pub returns-in-Settled-Locate : goal.returns-in-Settled-Locate
 returns-in-Settled-Locate g c =
-    decided g.E.Element.shown c.args.sheet.now (Settled c.in-Settled-Locate.field-0-0) c.args.command.now (Locate c.in-Settled-Locate.element) (Ok (to_locate c.element-of-in-Settled-Locate.result)) c.in-Settled-Locate.is-0 c.in-Settled-Locate.is-1
-    (omega arith, rw c.element-of-in-Settled-Locate.ensures locates)
+    decided g.E.Element.shown c.args.sheet.now (Settled c.in-Settled-Locate.field-0-0) c.args.command.now (Locate c.in-Settled-Locate.element) (Ok (to_locate c.element_of-in-Settled-Locate.result)) c.in-Settled-Locate.is-0 c.in-Settled-Locate.is-1
+    (omega arith, rw c.element_of-in-Settled-Locate.ensures locates)
 
 pub returns-in-Settled-Reopen : goal.returns-in-Settled-Reopen
 returns-in-Settled-Reopen g c =

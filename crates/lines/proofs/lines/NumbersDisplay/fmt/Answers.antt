@@ -8,7 +8,7 @@ loop-number-preserved g c = λ plain.
     let so_far = c.loop-number.invariant plain in
     put_next g.W.Write.write_str_gives (λ d. after_space (decimal d)) c.args.self.now.0.now c.loop-number.number-index 0
     c.args.f.now c.loop-number.f c.write.new.self
-    c.loop-number-test.true so_far (c.in_ok-write.ensures.shows so_far.plain (refl {a = true}))
+    c.loop-number-test.true so_far (c.in_ok-write.ensures.writes so_far.plain (refl {a = true}))
 
 pub returns-clause-writes : goal.returns-clause-writes
 returns-clause-writes g c = λ plain ok.

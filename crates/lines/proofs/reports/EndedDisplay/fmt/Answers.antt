@@ -11,7 +11,7 @@ loop-line-preserved g c = λ plain.
     let so_far = c.loop-line.invariant plain in
     put_next g.W.Write.write_str_gives (λ x. ended (line_text x)) c.args.self.now.0.now c.loop-line.line-index (Granted 0 0 Nothing)
     c.args.f.now c.loop-line.f c.writeln.new.self
-    c.loop-line-test.true so_far (c.in_ok-writeln.ensures.shows so_far.plain (refl {a = true}))
+    c.loop-line-test.true so_far (c.in_ok-writeln.ensures.writes so_far.plain (refl {a = true}))
 
 pub returns-clause-writes : goal.returns-clause-writes
 returns-clause-writes g c = λ plain ok.
