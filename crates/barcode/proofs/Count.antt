@@ -1,16 +1,15 @@
 -- The number of a bar counts the different lower bars. Assumes nothing.
-use Rattle.std.proofs.Common.{◌≡◌, ℕ, zero, suc, ◌+◌, ◌<◌, ◌≤◌, Bool, true, false, cond, not, ◌&&◌, ◌⊎◌, List, [], ◌∷◌, ◌++◌, map, length, Decides, filter, sym, refl, ap, ◌∙◌, subst, inl, inr, arith}
+use Rattle.std.proofs.Common.{◌≡◌, ℕ, zero, suc, ◌+◌, ◌<◌, ◌≤◌, Bool, true, false, not, ◌&&◌, ◌⊎◌, List, [], ◌∷◌, ◌++◌, length, Decides, filter, sym, refl, ap, ◌∙◌, subst, inl, inr, arith}
 use Rattle.std.specs.List.{range_with_len, AllByRecursion as All}
 use Rattle.std.proofs.lemmas.List.FromFn.{map-range_with_len_more}
 use Rattle.std.proofs.lemmas.List.Elements.{filter-append}
-use Rattle.std.proofs.ByRecursion.{all_kept_by, All-weaker}
+use Rattle.std.proofs.ByRecursion.{all_kept_by}
 use Rattle.std.proofs.lemmas.List.{map-id, length_push, append-nil}
 use Rattle.std.proofs.lemmas.Bool.{cases_Bool, cases_order, cases_lt, cond-true, cond-false, cond_both, and_parts, and_from, both_ways, not_from_false}
-use Rattle.elements.specs.Element.{Shown, exponent}
-use Rattle.orderings.specs.Order.{at, Agree, PartAt}
+use Rattle.elements.specs.Element.{Shown}
 use Rattle.orderings.specs.Rows.{row}
 use Rattle.orderings.proofs.Lines.{first}
-use Rattle.barcode.specs.Bars.{position, SameBar, LowerBar, same_bar, lower_bar, opens_bar, lower_bars, Among, Increasing, Represent, BarNumberCountsTheDifferentLowerBars}
+use Rattle.barcode.specs.Bars.{SameBar, LowerBar, same_bar, lower_bar, opens_bar, Among, Increasing, BarNumberCountsTheDifferentLowerBars}
 use Rattle.barcode.proofs.Tested.{same_bar_decides, lower_bar_decides}
 use Rattle.barcode.proofs.Found.{opens_not}
 

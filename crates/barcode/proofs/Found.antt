@@ -1,9 +1,9 @@
 -- What the code finds of bars. Assumes nothing.
-use Rattle.std.proofs.Common.{◌≡◌, ℕ, zero, suc, ◌+◌, ◌<◌, ◌≤◌, Bool, true, false, not, ◌&&◌, ◌⊎◌, List, length, get_or, is_some, Some, None, Decides, Option, sym, refl, ap, ◌∙◌, inl, inr, add-one, arith}
+use Rattle.std.proofs.Common.{◌≡◌, ℕ, zero, suc, ◌+◌, ◌<◌, ◌≤◌, Bool, true, false, not, List, length, is_some, Some, None, Decides, Option, sym, refl, ap, ◌∙◌, inl, inr, add-one, arith}
 use Rattle.std.proofs.lemmas.List.{get_or_past}
 use Rattle.std.proofs.lemmas.Bool.{cases_lt, cases_eq, and_left, and_right, and_from, not_from_true, not_from_false, not-false, not-true, both_ways}
 use Rattle.elements.specs.Element.{Shown, exponent}
-use Rattle.orderings.specs.Order.{at, Agree, DifferAt, PartAt}
+use Rattle.orderings.specs.Order.{at, Agree, DifferAt}
 use Rattle.orderings.specs.Rows.{row}
 use Rattle.barcode.specs.Bars.{position, SameBar, LowerBar, Star, same_bar, opens_bar}
 use Rattle.barcode.specs.Gap.{IsGap}

@@ -2,7 +2,7 @@
 use Rattle.std.specs.Prelude.{◌≡◌, ℕ, zero, suc, ◌<◌, ◌≤◌, Bool, true, false, cond, not, ◌&&◌, ◌||◌, ◌⊎◌, List, [], ◌∷◌, length, take, filter, ◌==◌, nat_lt}
 use Rattle.std.specs.List.{range_with_len, AllByRecursion}
 use Rattle.elements.specs.Element.{Shown, exponent}
-use Rattle.orderings.specs.Order.{at, Agree, PartAt}
+use Rattle.orderings.specs.Order.{Agree, PartAt}
 use Rattle.orderings.specs.Rows.{row}
 
 -- the position of variable v in an ordering: the first at which it stands, or the length where it does not

@@ -1,4 +1,6 @@
 // Bars, stars and gaps of the rows of a sheet, of any kind, under an ordering.
+#![tactic(auto)]
+
 ghost use Rattle.std.specs.Prelude.{◌≡◌, ℕ, ◌<◌, ◌≤◌, true, ◌&&◌, map, length, Decides};
 ghost use Rattle.orderings.specs.Order.{at, IsOrdering};
 ghost use Rattle.orderings.specs.Rows.{row as at_place};

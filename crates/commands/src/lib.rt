@@ -1,4 +1,6 @@
 // The reader of the log: commands, each a code of one byte and operands of fixed width.
+#![tactic(auto)]
+
 ghost use Rattle.std.specs.Prelude.{◌≡◌, ◌<◌, [], ◌∷◌, length, MatchResult, slice_index};
 ghost use Rattle.commands.specs.Log.{Reads, ReadingHasOneOutcome, Parted, element};
 ghost use Rattle.commands.specs.Read.{code_of, number_of, front};

@@ -1,7 +1,6 @@
 -- Limits that agree at the rows and variables of a sheet have the same cones. Assumes nothing.
-use Rattle.std.proofs.Common.{◌≡◌, ℕ, ◌<◌, ◌≤◌, List, length, Some, None, Option, sym, refl, ap, ◌∙◌, arith, MatchOption}
+use Rattle.std.proofs.Common.{◌≡◌, ℕ, ◌<◌, ◌≤◌, List, length, Some, None, Option, sym, ◌∙◌, MatchOption}
 use Rattle.elements.specs.Element.{Shown}
-use Rattle.orderings.specs.Rows.{row, Rows}
 use Rattle.divisions.specs.Laws.{Meaning, OnSheet, Lawful}
 use Rattle.cones.specs.declared.shortfalls.Short.{Short}
 use Rattle.cones.specs.Cones.{Limits, InCone, Complete, Shortfall, FirstShortfall, Small}

@@ -1,8 +1,8 @@
 -- Writing limits into a table. Assumes nothing.
-use Rattle.std.proofs.Common.{◌≡◌, ℕ, zero, suc, ◌+◌, ◌-◌, ◌<◌, ◌≤◌, ◌⊎◌, List, ◌∷◌, length, get_or, set, replicate, None, Option, sym, refl, ap, ◌∙◌, inl, inr, arith}
-use Rattle.std.proofs.lemmas.List.{get_or-set_same, get_or-set_other, length-set}
+use Rattle.std.proofs.Common.{◌≡◌, ℕ, zero, suc, ◌+◌, ◌-◌, ◌<◌, ◌≤◌, List, length, set, replicate, None, Option, refl, ap, ◌∙◌, inl, inr, arith}
+use Rattle.std.proofs.lemmas.List.{get_or-set_same, get_or-set_other}
 use Rattle.std.proofs.lemmas.Bool.{cases_eq}
-use Rattle.cones.specs.Tables.{limit_in, limits_at, limits_of}
+use Rattle.cones.specs.Tables.{limit_in, limits_of}
 
 module _ (ls : List (Option ℕ)) (v : ℕ) (d : Option ℕ) (low : 1 ≤ v) (high : v ≤ length ls) where
   limit_written : limit_in (set ls (v - 1) d) v ≡ d

@@ -1,11 +1,11 @@
 -- Janet-like division completes what any lawful division completes. Assumes nothing.
-use Rattle.std.proofs.Common.{◌≡◌, ℕ, ◌+◌, ◌<◌, ◌≤◌, List, length, Some, subst}
-use Rattle.elements.specs.Element.{Shown, exponent}
-use Rattle.orderings.specs.Order.{at, PartAt}
+use Rattle.std.proofs.Common.{◌≡◌, ℕ, List, Some, subst}
+use Rattle.elements.specs.Element.{Shown}
+use Rattle.orderings.specs.Order.{at}
 use Rattle.orderings.specs.Rows.{row}
 use Rattle.orderings.proofs.Positions.{listed, few}
 use Rattle.barcode.specs.Bars.{position}
-use Rattle.barcode.specs.Gap.{IsGap, gap}
+use Rattle.barcode.specs.Gap.{IsGap}
 use Rattle.barcode.proofs.Gaps.{gap_is}
 use Rattle.barcode.proofs.Listed.{position_at}
 use Rattle.divisions.specs.Laws.{OnSheet}

@@ -1,4 +1,6 @@
 // Cones and completeness over a table of limits, and by any division.
+#![tactic(auto)]
+
 pub mod holding;
 pub mod judging;
 pub mod shortfalls;

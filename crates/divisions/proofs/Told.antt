@@ -1,5 +1,5 @@
 -- Janet and Janet-like limits, by stars and gaps. Assumes nothing.
-use Rattle.std.proofs.Common.{ℕ, ◌<◌, List, length, Some, None, Option}
+use Rattle.std.proofs.Common.{ℕ, List, Some, None, Option}
 use Rattle.elements.specs.Element.{Shown}
 use Rattle.orderings.specs.Rows.{row}
 use Rattle.barcode.specs.Gap.{IsGap, gap}

@@ -1,17 +1,17 @@
 -- Janet and Janet-like division keep the laws. Assumes nothing.
-use Rattle.std.specs.Prelude.{◌≡◌, ℕ, zero, suc, ◌+◌, ◌-◌, ◌<◌, ◌≤◌, Bool, true, false, cond, ◌&&◌, ◌⊎◌, List, [], ◌∷◌, map, length, take, Some, None, Option, ◌==◌, nat_lt, slice_index, refl}
+use Rattle.std.specs.Prelude.{◌≡◌, ℕ, suc, ◌+◌, ◌-◌, ◌<◌, ◌≤◌, cond, ◌&&◌, List, map, length, take, Some, None, Option, ◌==◌, nat_lt, slice_index, refl}
 use Rattle.std.proofs.Common.{sym, ap, subst, ◌∙◌, inl, inr, arith}
-use Rattle.std.proofs.lemmas.Bool.{lt-ltb, cond-true, cases_lt}
+use Rattle.std.proofs.lemmas.Bool.{cases_lt}
 use Rattle.std.proofs.lemmas.List.{get_or-take, take-take}
-use Rattle.elements.specs.Element.{Shown, exponent, blank}
+use Rattle.elements.specs.Element.{Shown, exponent}
 use Rattle.orderings.specs.Order.{at, IsOrdering, PartAt}
-use Rattle.orderings.specs.Rows.{row, Rows}
+use Rattle.orderings.specs.Rows.{row}
 use Rattle.orderings.proofs.Positions.{listed, few}
-use Rattle.barcode.specs.Bars.{position, Rises, agrees}
-use Rattle.barcode.specs.Gap.{height, rises, rise, least, gap, IsGap}
+use Rattle.barcode.specs.Bars.{position, agrees}
+use Rattle.barcode.specs.Gap.{least, gap, IsGap}
 use Rattle.barcode.proofs.Listed.{position_at}
 use Rattle.barcode.proofs.Gaps.{gap_is}
-use Rattle.divisions.specs.Laws.{Meaning, OnSheet, Ranged, Separates, FromTheTop, Lawful}
+use Rattle.divisions.specs.Laws.{OnSheet, Lawful}
 use Rattle.divisions.specs.Janet.{one, janet, janet_like}
 
 -- a position at which rows part is one of the ordering's

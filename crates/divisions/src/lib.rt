@@ -1,4 +1,6 @@
 // Divisions: how far each row may be multiplied in each variable.
+#![tactic(auto)]
+
 ghost use Rattle.std.specs.Prelude.{◌≡◌, ℕ, map};
 ghost use Rattle.std.specs.Option.{option_map};
 ghost use Rattle.divisions.specs.Laws.{Meaning, Lawful};

@@ -1,4 +1,6 @@
 // Elements: what every kind of element offers, the two kinds in use, and arithmetic that is written once for all kinds.
+#![tactic(auto)]
+
 ghost use Rattle.std.specs.Prelude.{◌≡◌, ℕ, ◌≤◌, Bool, true, ◌&&◌, ◌⊎◌, is_some, IfSome, Decides, MatchOption, ◌==◌, nat_le};
 ghost use Rattle.elements.specs.Element.{Shown, exponent, entry as entry_of, Divides, Variable, Overflows, power as to_the, product as multiplied, times, quotient as divided, blank as nothing};
 ghost use Rattle.std.proofs.Common.{rules};

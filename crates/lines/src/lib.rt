@@ -1,4 +1,6 @@
 // What the log program prints: faults by their layer, the line of each command, and the whole output, with their text.
+#![tactic(auto)]
+
 pub mod faults;
 pub mod lines;
 pub mod reports;

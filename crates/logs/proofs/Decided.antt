@@ -1,5 +1,5 @@
 -- What the session decides, carried over to the sheet and command at hand. Assumes nothing.
-use Rattle.std.proofs.Common.{◌≡◌, ℕ, List, Result, sym, subst}
+use Rattle.std.proofs.Common.{◌≡◌, Result, sym, subst}
 use Rattle.elements.specs.Element.{Shown}
 use Rattle.divisions.specs.declared.Janet.{Janet}
 use Rattle.divisions.specs.declared.JanetLike.{JanetLike}

@@ -1,5 +1,5 @@
 -- A log that is read so far, and what comes next. Assumes nothing.
-use Rattle.std.proofs.Common.{◌≡◌, ℕ, suc, ◌+◌, ◌-◌, ◌≤◌, List, [], ◌∷◌, ◌++◌, map, length, Some, None, Ok, Option, sym, refl, ap, ◌∙◌, subst, arith}
+use Rattle.std.proofs.Common.{◌≡◌, ℕ, suc, ◌+◌, ◌-◌, ◌≤◌, List, [], ◌∷◌, ◌++◌, map, length, Some, None, Ok, Option, sym, ap, ◌∙◌, subst, arith}
 use Rattle.std.proofs.lemmas.List.{map_push, length-append}
 use Rattle.orderings.specs.Answer.{Answer, refused}
 use Rattle.sheets.specs.Book.{Book}
@@ -8,7 +8,7 @@ use Rattle.commands.specs.Log.{Reads, command, misread}
 use Rattle.commands.specs.Read.{code_of, operands_of, front}
 use Rattle.lines.specs.declared.lines.Line.{Line}
 use Rattle.lines.specs.Line.{line_text}
-use Rattle.logs.specs.Session.{Commanded, Entry, entry, Through, none, more, Logged, whole, faulty}
+use Rattle.logs.specs.Session.{Commanded, Entry, entry, Through, none, more, whole, faulty}
 use Rattle.logs.specs.Told.{entry_text, Lines}
 
 -- one command more

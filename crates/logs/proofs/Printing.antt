@@ -1,5 +1,5 @@
 -- The text of a command's line, by its answer. Assumes nothing.
-use Rattle.std.proofs.Common.{◌≡◌, ℕ, ◌-◌, Bool, List, [], ◌∷◌, map, get_or, Some, None, Ok, Err, codes, decimal, Option, sym, refl, ap, ◌∙◌, subst, arith}
+use Rattle.std.proofs.Common.{◌≡◌, ℕ, ◌-◌, Bool, List, [], ◌∷◌, get_or, Some, None, Ok, Err, codes, decimal, Option, sym, refl, ap, ◌∙◌, arith}
 use Rattle.std.specs.Option.{option_map}
 use Rattle.elements.specs.Element.{Shown}
 use Rattle.orderings.specs.Answer.{Answer, granted, refused}

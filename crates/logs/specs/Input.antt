@@ -1,5 +1,5 @@
 -- What is printed of an input. Assumes nothing.
-use Rattle.std.specs.Prelude.{◌≡◌, ℕ, ◌<◌, ◌≤◌, Bool, ◌&&◌, ◌⊎◌, List, [], ◌∷◌, length, vec_items, ◌≢◌, nat_eq, nat_le}
+use Rattle.std.specs.Prelude.{◌≡◌, ℕ, ◌<◌, ◌≤◌, Bool, ◌&&◌, List, ◌∷◌, length, vec_items, ◌≢◌, nat_eq, nat_le}
 use Rattle.orderings.specs.Order.{VariableCount}
 use Rattle.sheets.specs.Book.{fresh}
 use Rattle.lines.specs.declared.reports.BadStart.TheVariants.{CutShort, NoSuchKind, VariableCount as BadCount}

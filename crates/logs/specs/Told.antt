@@ -1,5 +1,5 @@
 -- How the session's results and lines are read. Assumes nothing.
-use Rattle.std.specs.Prelude.{◌≡◌, ℕ, suc, ◌-◌, Bool, cond, List, [], ◌∷◌, ◌++◌, map, take, Some, None, Ok, Err, codes, decimal, Result, ◌==◌, slice_index, slice_index_or}
+use Rattle.std.specs.Prelude.{◌≡◌, ℕ, suc, ◌-◌, Bool, cond, List, [], ◌∷◌, map, take, Some, None, Ok, Err, codes, decimal, Result, ◌==◌, slice_index, slice_index_or}
 use Rattle.elements.specs.Element.{Shown}
 use Rattle.orderings.specs.Answer.{Answer, granted, refused}
 use Rattle.divisions.specs.declared.Janet.{Janet}

@@ -1,10 +1,10 @@
 -- Compare has one answer, and exchanging the elements mirrors it. Assumes nothing.
-use Rattle.std.proofs.Common.{◌≡◌, ℕ, Bool, ◌⊎◌, List, [], ◌∷◌, length, sym, refl, ap, ◌∙◌, subst, inl, inr, arith}
+use Rattle.std.proofs.Common.{◌≡◌, ℕ, Bool, List, [], ◌∷◌, sym, refl, subst, inl, inr, arith}
 use Rattle.elements.specs.Element.{Shown}
-use Rattle.orderings.specs.Answer.{Answer, granted, refused, Check, check, Judged, Answers, standing}
-use Rattle.orderings.specs.Compare.{compare_checks, Stands, below, same, above, Compares, Mirrors, below_above, above_below, same_same, refused_refused, CompareHasOneAnswer, SwappingMirrorsCompare}
+use Rattle.orderings.specs.Answer.{Answer, granted, refused, Answers, standing}
+use Rattle.orderings.specs.Compare.{compare_checks, Stands, below, same, above, Mirrors, below_above, above_below, same_same, refused_refused, CompareHasOneAnswer, SwappingMirrorsCompare}
 use Rattle.orderings.specs.Fit.{Fit}
-use Rattle.orderings.specs.Order.{VariableCount, IsOrdering, Below}
+use Rattle.orderings.specs.Order.{IsOrdering, Below}
 use Rattle.orderings.specs.declared.comparing.Comparison.{Comparison}
 use Rattle.orderings.specs.declared.comparing.Comparison.TheVariants as case
 use Rattle.orderings.specs.Stands.{StandsAs}

@@ -1,5 +1,5 @@
 -- What the checks of a call decide. Assumes nothing.
-use Rattle.std.proofs.Common.{◌≡◌, ℕ, ◌⊎◌, List, [], ◌∷◌, sym, refl, ap, ◌∙◌, subst, inl, inr}
+use Rattle.std.proofs.Common.{◌≡◌, ℕ, ◌⊎◌, List, [], ◌∷◌, sym, ap, ◌∙◌, inl, inr}
 use Rattle.orderings.specs.Answer.{Check, Judged}
 
 module _ {O : Type 0} (refuse : ℕ → O) (G H : O → Type 0) where

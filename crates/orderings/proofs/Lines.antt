@@ -1,11 +1,11 @@
 -- The elements that fit stand in one line. Assumes nothing.
-use Rattle.std.proofs.Common.{◌≡◌, ℕ, zero, suc, ◌+◌, ◌<◌, ◌≤◌, Bool, ◌⊎◌, List, length, get_or, sym, ◌∙◌, inl, inr, arith, below_none, below_more}
+use Rattle.std.proofs.Common.{◌≡◌, ℕ, zero, suc, ◌<◌, ◌≤◌, Bool, ◌⊎◌, List, sym, ◌∙◌, inl, inr, arith, below_none, below_more}
 use Rattle.std.proofs.lemmas.List.{ext_get_or}
 use Rattle.std.proofs.lemmas.Bool.{cases_eq, cases_lt, cases_order}
 use Rattle.elements.specs.Element.{Shown, exponent}
 use Rattle.elements.proofs.Terms.{shown_path}
 use Rattle.orderings.specs.Compare.{CompareIsATotalOrder}
-use Rattle.orderings.specs.Fit.{Admitted, Fit}
+use Rattle.orderings.specs.Fit.{Admitted}
 use Rattle.orderings.specs.Order.{at, IsOrdering, Agree, PartAt, Below}
 use Rattle.orderings.proofs.Positions.{position}
 

@@ -1,5 +1,5 @@
 -- The rows of a sheet. Assumes nothing.
-use Rattle.std.specs.Prelude.{◌≡◌, ℕ, ◌<◌, Bool, List, length, ◌≢◌, slice_index_or}
+use Rattle.std.specs.Prelude.{ℕ, ◌<◌, Bool, List, length, ◌≢◌, slice_index_or}
 use Rattle.elements.specs.Element.{Shown, blank}
 use Rattle.orderings.specs.Fit.{Fit}
 

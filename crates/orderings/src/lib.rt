@@ -1,4 +1,6 @@
 // Orderings of the variables, the elements that a sheet takes, compare, and the refusals with their numbers.
+#![tactic(auto)]
+
 pub mod comparing;
 pub mod fitting;
 pub mod orders;

@@ -1,18 +1,17 @@
 -- What holds of every sound book. Assumes nothing.
-use Rattle.std.proofs.Common.{◌≡◌, ℕ, ◌<◌, ◌≤◌, ◌⊎◌, List, [], ◌∷◌, length, sym, refl, ap, subst, inl, inr, arith}
-use Rattle.elements.specs.Element.{Shown, Divides}
+use Rattle.std.proofs.Common.{◌≡◌, ℕ, ◌≤◌, List, [], ◌∷◌, length, sym, refl, ap, subst, inl, inr, arith}
+use Rattle.elements.specs.Element.{Shown}
 use Rattle.orderings.specs.Answer.{Answer, granted, refused}
 use Rattle.orderings.specs.Fit.{Admitted}
 use Rattle.orderings.specs.Order.{IsOrdering}
-use Rattle.orderings.specs.Rows.{row}
 use Rattle.divisions.specs.Laws.{Meaning, Lawful, OnSheet}
-use Rattle.cones.specs.Cones.{InCone, Complete}
+use Rattle.cones.specs.Cones.{InCone}
 use Rattle.cones.proofs.Divisors.{cones_are_disjoint}
 use Rattle.cones.proofs.Wider.{lawful_limits_are_separated, janet_like_completes_what_any_division_completes}
 use Rattle.search.specs.Liveness.{tested}
 use Rattle.search.specs.Theorems.{NoneComplete}
 use Rattle.sheets.specs.Book.{Book, State, opened, settled_by, settle, locate, Takes, Located, TellsSettled, serving, unserved, with_state, Answered}
-use Rattle.runs.specs.Runs.{Sound, Law, Multiple, FindsNone, ASoundBookKeepsTheLaw}
+use Rattle.runs.specs.Runs.{Sound, Multiple, FindsNone, ASoundBookKeepsTheLaw}
 
 pub on : (b : Book) → Sound b → (order : List ℕ) → IsOrdering b.n order → OnSheet b.n b.rows order
 on b sound order o =

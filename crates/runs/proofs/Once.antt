@@ -1,21 +1,20 @@
 -- Each call on a sound book has one outcome. Assumes nothing.
-use Rattle.std.proofs.Common.{◌≡◌, ℕ, suc, ◌+◌, ◌<◌, ◌≤◌, ◌⊎◌, List, [], ◌∷◌, ◌++◌, length, get_or, Some, None, Option, sym, refl, ap, ◌∙◌, subst, inl, inr, arith}
+use Rattle.std.proofs.Common.{◌≡◌, ℕ, ◌<◌, ◌≤◌, List, [], ◌∷◌, ◌++◌, length, Some, sym, refl, ap, ◌∙◌, subst, inl, inr, arith}
 use Rattle.std.proofs.lemmas.List.{get_or_at, length-append}
 use Rattle.std.proofs.lemmas.Bool.{cases_lt}
 use Rattle.elements.specs.Element.{Shown, blank}
 use Rattle.orderings.specs.Answer.{Answer, granted, refused}
-use Rattle.orderings.specs.Rows.{row, Rows}
+use Rattle.orderings.specs.Rows.{row}
 use Rattle.orderings.proofs.Judging.{Hold}
-use Rattle.divisions.specs.Laws.{Meaning, Lawful}
-use Rattle.cones.specs.Cones.{Limits, Complete, FirstShortfall}
+use Rattle.divisions.specs.Laws.{Meaning}
+use Rattle.cones.specs.Cones.{Limits, FirstShortfall}
 use Rattle.search.specs.Prefixes.{Before, padded}
 use Rattle.search.specs.Liveness.{tested}
-use Rattle.search.specs.Theorems.{FirstComplete, NoneComplete}
+use Rattle.search.specs.Theorems.{FirstComplete}
 use Rattle.search.proofs.Orders.{ordering_of}
-use Rattle.sheets.specs.Book.{Book, State, opened, settled_by, Call, insert, withdraw, arrange, bar, limit, verdict, weigh, settle, locate, reopen, Takes, checks, Becomes, Settles, first, none, Tells, TellsBar, starred, unstarred, TellsVerdict, complete, short, TellsSettled, serving, unserved, Located, element_told, with_state, with_order, with_rows, Follows, Answered}
-use Rattle.runs.specs.Runs.{LawfulCall, Sound, ACallHasOneOutcome}
+use Rattle.sheets.specs.Book.{Book, State, opened, settled_by, Call, insert, withdraw, arrange, bar, limit, verdict, weigh, settle, locate, reopen, Takes, checks, Becomes, Settles, first, none, Tells, TellsBar, starred, unstarred, TellsVerdict, complete, short, TellsSettled, serving, unserved, Located, with_state, with_order, with_rows}
+use Rattle.runs.specs.Runs.{Sound, ACallHasOneOutcome}
 use Rattle.runs.proofs.Judged.{held_once}
-use Rattle.runs.proofs.Sound.{not_both}
 use Rattle.runs.proofs.Laws.{one_cone}
 
 -- of two numbers neither of which is below the other

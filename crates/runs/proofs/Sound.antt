@@ -1,18 +1,15 @@
 -- Every call keeps a book sound. Assumes nothing.
-use Rattle.std.proofs.Common.{◌≡◌, ℕ, ◌+◌, ◌<◌, ◌≤◌, ◌⊎◌, List, [], ◌∷◌, ◌++◌, length, sym, refl, subst, inl, inr, arith}
-use Rattle.std.specs.List.{ContainsAt as Has}
+use Rattle.std.proofs.Common.{◌≡◌, ℕ, ◌≤◌, List, [], ◌∷◌, ◌++◌, length, sym, refl, subst, inl, inr, arith}
 use Rattle.std.proofs.lemmas.List.{length_push, length-append}
 use Rattle.elements.specs.Element.{Shown}
-use Rattle.orderings.specs.Fit.{Fit}
 use Rattle.orderings.specs.Order.{IsOrdering}
 use Rattle.orderings.specs.Rows.{Rows}
 use Rattle.orderings.proofs.Judging.{Hold}
 use Rattle.divisions.specs.Laws.{Meaning, Lawful}
 use Rattle.cones.specs.Cones.{Complete}
 use Rattle.search.specs.Prefixes.{padded}
-use Rattle.search.specs.Theorems.{FirstComplete}
 use Rattle.search.proofs.Orders.{ordering_of}
-use Rattle.sheets.specs.Book.{Book, State, opened, settled_by, Call, insert, withdraw, arrange, bar, limit, verdict, weigh, settle, locate, reopen, Takes, checks, Becomes, Settles, first, none, with_rows, with_order, with_state, Follows}
+use Rattle.sheets.specs.Book.{Book, State, opened, settled_by, Call, insert, withdraw, arrange, bar, limit, verdict, weigh, settle, locate, reopen, Takes, checks, Becomes, Settles, first, none, with_rows, with_order, with_state}
 use Rattle.sheets.proofs.Natural.{natural_ordered}
 use Rattle.sheets.proofs.Rows.{rows_push, rows_split_off}
 use Rattle.runs.specs.Runs.{LawfulCall, Sound, AFreshBookIsSound, EveryCallKeepsBooksSound}

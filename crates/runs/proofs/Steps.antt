@@ -1,5 +1,5 @@
 -- One call on a sheet of either state, from the call's own contract. Assumes nothing.
-use Rattle.std.proofs.Common.{◌≡◌, ℕ, Bool, ◌⊎◌, List, [], Some, None, sym, refl, ap, ◌∙◌, subst, inl, inr, arith}
+use Rattle.std.proofs.Common.{◌≡◌, ℕ, Bool, List, [], Some, None, sym, refl, ap, ◌∙◌, subst, inl, arith}
 use Rattle.elements.specs.Element.{Shown}
 use Rattle.orderings.specs.Answer.{Answer, refused}
 use Rattle.divisions.specs.Laws.{Meaning, Lawful}

@@ -1,4 +1,6 @@
 // Reads an input with a log, and prints what its commands answer.
+#![tactic(auto)]
+
 use logs::inputs::{MOST_BYTES, output};
 use std::io;
 use std::io::Read;

@@ -1,8 +1,8 @@
 -- The rows of a table, after an insertion and after a removal. Assumes nothing.
-use Rattle.std.proofs.Common.{◌≡◌, ℕ, suc, ◌+◌, ◌-◌, ◌<◌, ◌≤◌, Bool, true, false, ◌⊎◌, List, [], ◌∷◌, ◌++◌, map, length, get_or, take, drop, set, is_some, Some, None, Option, sym, refl, ap, ◌∙◌, subst, inl, inr, add-one, arith, MatchOption}
+use Rattle.std.proofs.Common.{◌≡◌, ℕ, suc, ◌+◌, ◌-◌, ◌<◌, ◌≤◌, Bool, true, false, List, [], ◌∷◌, ◌++◌, length, take, drop, set, is_some, Some, None, Option, sym, refl, ap, ◌∙◌, subst, inl, inr, add-one, arith, MatchOption}
 use Rattle.std.specs.List.{ContainsAt as Has, remove}
 use Rattle.std.proofs.lemmas.List.Edits.{get_or-remove_below, get_or-remove_above, length-remove}
-use Rattle.std.proofs.lemmas.List.{get_or-take, get_or_default, get_or_past, get_or_append_left, get_or-append_right, get_or_at, get_or-set_other, length-take-le, length_push, take_more_set, ext_get_or, take-append-drop, drop_more, length-append, length-set}
+use Rattle.std.proofs.lemmas.List.{get_or-take, get_or_default, get_or_past, get_or_append_left, get_or-append_right, get_or_at, get_or-set_other, length-take-le, length_push, take_more_set, ext_get_or, take-append-drop, drop_more, length-append}
 use Rattle.std.proofs.lemmas.Bool.{cases_lt, cases_eq, true≢false, false≢true}
 use Rattle.elements.specs.Element.{Shown, blank}
 use Rattle.orderings.specs.Fit.{Fit}

@@ -10,9 +10,9 @@ use Rattle.search.specs.Liveness.{RowsOfSheet, answer, tested}
 use Rattle.search.specs.Theorems.{FirstComplete, NoneComplete, TheAnswerIsTheFirstCompleteOrdering}
 use Rattle.search.proofs.Orders.{ordering_of}
 use Rattle.sheets.specs.declared.parts.Parts.{Parts}
-use Rattle.sheets.specs.Book.{State, opened, settled_by, Book, settle, Settles, first, none, TellsSettled, serving, unserved}
-use Rattle.sheets.specs.Read.{Stands, book, Moved, Performed}
-use Rattle.sheets.proofs.Steps.{bound, makes_at, granted_to, kept_by}
+use Rattle.sheets.specs.Book.{opened, settled_by, settle, first, none, serving, unserved}
+use Rattle.sheets.specs.Read.{Stands, Moved, Performed}
+use Rattle.sheets.proofs.Steps.{makes_at, granted_to, kept_by}
 use Rattle.sheets.proofs.Verdicts.{on_sheet}
 
 -- what a search over the same rows found

@@ -1,18 +1,18 @@
 -- The calls of an open sheet as steps of the book. Assumes nothing.
-use Rattle.std.proofs.Common.{◌≡◌, ℕ, suc, ◌+◌, ◌-◌, ◌<◌, ◌≤◌, Bool, true, false, cond, ◌⊎◌, List, [], ◌∷◌, ◌++◌, map, length, take, drop, set, vec_items, vec_len, Decides, sym, refl, ap, ◌∙◌, subst, inl, inr, arith}
+use Rattle.std.proofs.Common.{◌≡◌, ℕ, suc, ◌+◌, ◌-◌, ◌<◌, Bool, true, false, cond, List, [], ◌∷◌, ◌++◌, map, length, take, drop, set, vec_items, vec_len, Decides, sym, refl, ap, ◌∙◌, subst, arith}
 use Rattle.std.specs.List.{ContainsAt as Has, remove}
 use Rattle.std.proofs.lemmas.List.{length-map, length-set, length-take-le, get_or-take, map-set, map-append, take-map, drop-map}
 use Rattle.std.proofs.lemmas.Bool.{false≢true}
 use Rattle.elements.specs.Element.{Shown, blank}
-use Rattle.orderings.specs.Answer.{Answer, granted, refused, Check, check, Judged, Answers}
+use Rattle.orderings.specs.Answer.{Answer, granted, refused}
 use Rattle.orderings.specs.Fit.{Fit}
-use Rattle.orderings.specs.Order.{VariableCount, IsOrdering}
-use Rattle.orderings.specs.Rows.{row, Rows}
+use Rattle.orderings.specs.Order.{VariableCount}
+use Rattle.orderings.specs.Rows.{row}
 use Rattle.orderings.proofs.Judging.{Fails, Hold, judged_refused, judged_granted}
 use Rattle.barcode.specs.Bars.{Star, bar_number}
 use Rattle.sheets.specs.declared.parts.Parts.{Parts}
 use Rattle.sheets.specs.Sheet.{Makes, PlaceCount, natural_order}
-use Rattle.sheets.specs.Book.{State, opened, Book, Call, insert, withdraw, checks, Becomes, Tells, TellsBar, starred, unstarred, Follows, Answered, fresh}
+use Rattle.sheets.specs.Book.{State, opened, Book, Call, insert, withdraw, checks, Becomes, Tells, TellsBar, starred, unstarred, fresh}
 use Rattle.sheets.specs.Read.{Stands, book, Moved, Performed}
 use Rattle.sheets.proofs.Natural.{natural_ordered}
 use Rattle.sheets.proofs.Rows.{some_has, rows_insert, rows_pushed, blanks_insert, without, length_without, rows_without, rows_split, rows_withdraw, blanks_withdraw}

@@ -1,8 +1,8 @@
 -- Verdicts as the code gives them. Assumes nothing.
-use Rattle.std.proofs.Common.{◌≡◌, ℕ, ◌<◌, ◌≤◌, Bool, List, [], ◌∷◌, map, length, take, vec_items, sym, refl, subst, arith}
+use Rattle.std.proofs.Common.{◌≡◌, ℕ, Bool, List, ◌∷◌, map, take, vec_items, sym, subst, arith}
 use Rattle.std.proofs.lemmas.List.{length-take-le}
 use Rattle.elements.specs.Element.{Shown}
-use Rattle.orderings.specs.Answer.{Answer, granted}
+use Rattle.orderings.specs.Answer.{granted}
 use Rattle.orderings.specs.Order.{IsOrdering}
 use Rattle.orderings.specs.Rows.{row}
 use Rattle.divisions.specs.Laws.{Meaning, OnSheet}

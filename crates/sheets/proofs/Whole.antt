@@ -1,13 +1,12 @@
 -- A book fixes its sheet. Assumes nothing.
-use Rattle.std.proofs.Common.{◌≡◌, ℕ, ◌<◌, ◌≤◌, Bool, ◌⊎◌, List, [], ◌∷◌, map, length, get_or, take, vec_items, vec_len, sym, refl, ap, ◌∙◌, inl, inr, arith}
+use Rattle.std.proofs.Common.{◌≡◌, ℕ, ◌≤◌, Bool, List, [], ◌∷◌, map, length, take, vec_items, vec_len, sym, refl, ap, ◌∙◌, inl, inr, arith}
 use Rattle.std.proofs.lemmas.List.{length-map, length-take-le, get_or-take, ext_get_or}
 use Rattle.std.proofs.lemmas.Bool.{cases_lt}
 use Rattle.elements.specs.Element.{Shown, blank}
 use Rattle.orderings.specs.Rows.{row}
 use Rattle.sheets.specs.declared.parts.Header.{Header}
-use Rattle.sheets.specs.declared.parts.Parts.{Parts}
-use Rattle.sheets.specs.Book.{Book, State}
-use Rattle.sheets.specs.Read.{Stands, book, ABookFixesItsSheet}
+use Rattle.sheets.specs.Book.{Book}
+use Rattle.sheets.specs.Read.{ABookFixesItsSheet}
 
 -- lists of elements that show the same are the same
 same_elements : {E : Type 0} (shown : E → Shown) → ((x y : E) → shown x ≡ shown y → x ≡ y) → (xs ys : List E) → map shown xs ≡ map shown ys → xs ≡ ys

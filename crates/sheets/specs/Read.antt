@@ -1,9 +1,7 @@
 -- How the parts of a sheet are read, and what a call on them comes to. Assumes nothing.
-use Rattle.std.specs.Prelude.{◌≡◌, ℕ, ◌+◌, Bool, cond, List, [], ◌∷◌, ◌++◌, map, length, take, set, Ok, Err, vec_items, vec_len, Result, MatchResult}
-use Rattle.elements.specs.Element.{Shown, blank}
-use Rattle.orderings.specs.declared.refusals.Refusal.{Refusal}
+use Rattle.std.specs.Prelude.{◌≡◌, ℕ, Bool, cond, List, [], ◌∷◌, map, take, Ok, Err, vec_items, vec_len, Result, MatchResult}
+use Rattle.elements.specs.Element.{Shown}
 use Rattle.orderings.specs.Answer.{Answer, granted, refused, refusal, Answers}
-use Rattle.sheets.specs.declared.parts.Header.{Header}
 use Rattle.sheets.specs.declared.parts.Parts.{Parts}
 use Rattle.sheets.specs.declared.parts.OpenSheet.{OpenSheet}
 use Rattle.sheets.specs.declared.parts.Denied.{Denied}

@@ -1,4 +1,6 @@
 // The sheet: its parts, what makes a sheet, and the calls on an open one and on a settled one.
+#![tactic(auto)]
+
 pub mod editing;
 pub mod judging;
 pub mod locating;

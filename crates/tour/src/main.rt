@@ -1,4 +1,6 @@
 // A guided tour: one task followed from beginning to end, each step told in words.
+#![tactic(auto)]
+
 mod bars;
 mod names;
 mod searching;

@@ -1,3 +1,5 @@
+#![tactic(auto)]
+
 // Tests of the engine's crates, in a crate of their own.
 #[cfg(test)]
 mod bars;

@@ -1,4 +1,6 @@
 // Replays the stored logs: each is four bytes that tell its length, the high one first, and then its bytes.
+#![tactic(auto)]
+
 use logs::inputs::output;
 use std::{fs, io};
 

@@ -1,4 +1,6 @@
 // The worked sets: nine results shown together, and one of them run.
+#![tactic(auto)]
+
 ghost use Rattle.std.specs.Prelude.{◌≡◌, [], ◌∷◌, Some};
 ghost use Rattle.worked.specs.Sets.{TheNineWorkedResults};
 

@@ -1,5 +1,4 @@
-use Rattle.std.proofs.Common.{◌≡◌, ℕ, suc, ◌+◌, ◌<◌, ◌≤◌, Bool, true, false, ◌&&◌, map, length, sym, refl, ap, ◌∙◌, inl, inr, add-one, arith, rules}
-use Rattle.std.proofs.lemmas.Bool.{cases_eq}
+use Rattle.std.proofs.Common.{◌≡◌, ℕ, suc, ◌&&◌, map, length, sym, ap, ◌∙◌, add-one, arith, rules}
 use Rattle.std.proofs.lemmas.List.{length-map}
 use Rattle.orderings.specs.Rows.{row}
 use Rattle.barcode.specs.Bars.{opens_bar, lower_bar}

@@ -1,4 +1,4 @@
-use Rattle.std.proofs.Common.{◌≡◌, sym, ◌∙◌}
+use Rattle.std.proofs.Common.{sym, ◌∙◌}
 use Rattle.barcode.proofs.Found.{star_decides, star_none}
 use Rattle.barcode.proofs.Gaps.{gap_past}
 use Rattle.barcode.proofs.has_star.Goals as goal

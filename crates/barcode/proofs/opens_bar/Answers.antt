@@ -1,5 +1,4 @@
-use Rattle.std.proofs.Common.{◌≡◌, ◌<◌, map, length, sym, refl, subst, arith}
-use Rattle.elements.specs.Element.{Shown}
+use Rattle.std.proofs.Common.{◌<◌, map, length, sym, refl, arith}
 use Rattle.std.proofs.lemmas.Bool.Decides.{not_from_Decides}
 use Rattle.orderings.proofs.Places.{row_read}
 use Rattle.barcode.proofs.Found.{opens_not, opens_more}

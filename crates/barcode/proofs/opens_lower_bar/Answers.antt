@@ -1,9 +1,7 @@
-use Rattle.std.proofs.Common.{◌≡◌, Bool, true, ◌&&◌, map, sym, refl, ap, ◌∙◌}
-use Rattle.elements.specs.Element.{Shown}
+use Rattle.std.proofs.Common.{◌≡◌, true, map, sym, ◌∙◌}
 use Rattle.std.proofs.lemmas.Bool.Decides.{same_from_decides}
-use Rattle.orderings.specs.Rows.{row}
 use Rattle.orderings.proofs.Places.{row_read}
-use Rattle.barcode.specs.Bars.{opens_bar, lower_bar}
+use Rattle.barcode.specs.Bars.{opens_bar}
 use Rattle.barcode.proofs.Tested.{lower_bar_decides}
 use Rattle.barcode.proofs.opens_lower_bar.Goals as goal
 

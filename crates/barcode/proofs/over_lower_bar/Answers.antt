@@ -1,4 +1,3 @@
-use Rattle.std.proofs.Common.{◌≡◌, sym, refl, ◌∙◌}
 use Rattle.std.proofs.lemmas.Bool.{false≢true}
 use Rattle.barcode.proofs.Found.{never_lower}
 use Rattle.barcode.proofs.over_lower_bar.Goals as goal

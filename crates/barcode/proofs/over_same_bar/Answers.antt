@@ -1,4 +1,4 @@
-use Rattle.std.proofs.Common.{◌≡◌, sym, refl, ◌∙◌}
+use Rattle.std.proofs.Common.{refl}
 use Rattle.barcode.proofs.Found.{agree_all}
 use Rattle.barcode.proofs.over_same_bar.Goals as goal
 

@@ -1,4 +1,4 @@
-use Rattle.std.proofs.Common.{◌≡◌, sym, refl, ap, ◌∙◌}
+use Rattle.std.proofs.Common.{sym, refl, ap, ◌∙◌}
 use Rattle.elements.specs.Element.{entry}
 use Rattle.orderings.specs.Order.{at}
 use Rattle.barcode.proofs.Tested.{rise_none, none_agreeing, none_elsewhere, rise_here}

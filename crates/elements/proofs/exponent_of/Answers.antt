@@ -1,4 +1,4 @@
-use Rattle.std.proofs.Common.{◌<◌, ◌≤◌, ◌⊎◌, sym, inl, inr, arith}
+use Rattle.std.proofs.Common.{sym, inl, inr, arith}
 use Rattle.elements.proofs.Terms.{entry_none, entry_past, entry_place}
 use Rattle.elements.proofs.exponent_of.Goals as goal
 

@@ -1,4 +1,4 @@
-use Rattle.std.proofs.Common.{◌≡◌, sym, ◌∙◌, arith, rules}
+use Rattle.std.proofs.Common.{arith}
 use Rattle.elements.proofs.Terms.{overflows_at, product_written}
 use Rattle.elements.proofs.product.Goals as goal
 

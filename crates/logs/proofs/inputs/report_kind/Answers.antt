@@ -1,4 +1,4 @@
-use Rattle.std.proofs.Common.{vec_items, refl}
+use Rattle.std.proofs.Common.{vec_items}
 use Rattle.logs.proofs.Opened.{logged_from}
 use Rattle.logs.proofs.inputs.report_kind.Goals as goal
 

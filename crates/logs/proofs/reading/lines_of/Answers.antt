@@ -1,4 +1,4 @@
-use Rattle.std.proofs.Common.{vec_items, refl, arith}
+use Rattle.std.proofs.Common.{vec_items, refl}
 use Rattle.commands.specs.Read.{code_of, operands_of, number_of}
 use Rattle.runs.specs.Replies.{book_of}
 use Rattle.logs.specs.Session.{numbered_meaning}

@@ -2,7 +2,7 @@ use Rattle.std.proofs.Common.{Ok, Err, arith}
 use Rattle.commands.specs.declared.Command.TheVariants.{Insert, Withdraw, Arrange, Verdict, Weigh, Settle, Locate, Reopen}
 use Rattle.runs.specs.declared.requests.Request.TheVariants.{Insert as to_insert, Withdraw as to_withdraw, Arrange as to_arrange, Verdict as to_judge, Weigh as to_weigh, Settle as to_settle, Locate as to_locate, Reopen as to_reopen}
 use Rattle.runs.specs.declared.requests.Sheet.TheVariants.{Open, Settled}
-use Rattle.lines.specs.declared.faults.Untaken.TheVariants.{WrongState, NoSuchDivision}
+use Rattle.lines.specs.declared.faults.Untaken.TheVariants.{NoSuchDivision}
 use Rattle.logs.specs.Session.{inserts, withdraws, arranges, judges, weighs, settles, locates, reopens}
 use Rattle.logs.proofs.Decided.{decided}
 use Rattle.logs.proofs.sessions.request_of.Goals as goal

@@ -1,4 +1,4 @@
-use Rattle.std.proofs.Common.{◌≡◌, ℕ, ◌<◌, ◌≤◌, length, sym, refl, ap, ◌∙◌, arith, rules}
+use Rattle.std.proofs.Common.{◌≡◌, ℕ, ◌<◌, ◌≤◌, length, sym, refl, ap, ◌∙◌, arith}
 use Rattle.elements.specs.Element.{entry}
 use Rattle.orderings.proofs.Exponents.{of_each}
 use Rattle.orderings.proofs.fitting.is_admitted.Goals as goal

@@ -1,4 +1,4 @@
-use Rattle.std.proofs.Common.{◌≡◌, ℕ, ◌<◌, ◌≤◌, length, sym, refl, ap, ◌∙◌, arith}
+use Rattle.std.proofs.Common.{◌≡◌, ℕ, ◌≤◌, length, refl, arith}
 use Rattle.elements.specs.Element.{entry}
 use Rattle.orderings.proofs.Exponents.{of_each}
 use Rattle.orderings.proofs.fitting.is_fit.Goals as goal

@@ -1,4 +1,4 @@
-use Rattle.std.proofs.Common.{◌≡◌, ℕ, ◌<◌, ◌≤◌, ◌⊎◌, length, refl, inl, inr, arith, rules}
+use Rattle.std.proofs.Common.{refl, inl, inr, arith, rules}
 use Rattle.std.proofs.lemmas.List.{get_or_past}
 use Rattle.std.proofs.lemmas.Bool.{cases_lt, false≢true}
 use Rattle.orderings.proofs.Positions.{few, each_variable_stands_once}

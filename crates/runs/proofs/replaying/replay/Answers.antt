@@ -1,4 +1,4 @@
-use Rattle.std.proofs.Common.{vec_items, sym, refl, ap, subst, arith, rules}
+use Rattle.std.proofs.Common.{vec_items, refl, arith}
 use Rattle.runs.specs.Replies.{call_of, answer_of, Replays}
 use Rattle.runs.proofs.Runs.{every_run_keeps_the_law, run_start, run_more, run_end, ran_by, unmade_of}
 use Rattle.runs.proofs.Sound.{a_fresh_book_is_sound, every_call_keeps_books_sound}

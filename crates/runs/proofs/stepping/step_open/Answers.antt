@@ -1,6 +1,6 @@
 use Rattle.std.proofs.Common.{refl, ap}
-use Rattle.runs.specs.declared.requests.Request.TheVariants.{Insert, Withdraw, Arrange, Bar, Limit, Verdict, Weigh, Settle, Locate, Reopen}
-use Rattle.runs.specs.declared.requests.Reply.TheVariants.{Done, Refused, Settled as Served}
+use Rattle.runs.specs.declared.requests.Request.TheVariants.{Insert, Withdraw, Arrange, Bar, Limit, Verdict, Weigh, Settle}
+use Rattle.runs.specs.declared.requests.Reply.TheVariants.{Refused, Settled as Served}
 use Rattle.runs.specs.declared.requests.Sheet.TheVariants.{Open, Settled}
 use Rattle.runs.proofs.Steps.{nothing_is_some, one_form, taken_step, open_step, untaken_step}
 use Rattle.runs.proofs.Judged.{granted_not_refused}

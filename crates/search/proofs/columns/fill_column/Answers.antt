@@ -1,4 +1,4 @@
-use Rattle.std.proofs.Common.{refl, arith}
+use Rattle.std.proofs.Common.{arith}
 use Rattle.search.proofs.Writing.{writing_start, writing_more, writing_end}
 use Rattle.search.proofs.columns.fill_column.Goals as goal
 

@@ -1,4 +1,4 @@
-use Rattle.std.proofs.Common.{ℕ, take}
+use Rattle.std.proofs.Common.{take}
 use Rattle.search.proofs.Filling.{Fills}
 use Rattle.search.proofs.prefixes.completed.Given as goal
 

@@ -1,4 +1,4 @@
-use Rattle.std.proofs.Common.{◌≡◌, sym, ◌∙◌, arith}
+use Rattle.std.proofs.Common.{sym, ◌∙◌, arith}
 use Rattle.search.proofs.Entries.{above_yes, above_no, above_none}
 use Rattle.search.proofs.prefixes.next_unused.Goals as goal
 

@@ -1,4 +1,4 @@
-use Rattle.std.proofs.Common.{◌≡◌, sym, arith}
+use Rattle.std.proofs.Common.{sym, arith}
 use Rattle.search.proofs.Entries.{has_more, has_found}
 use Rattle.search.proofs.prefixes.used.Goals as goal
 

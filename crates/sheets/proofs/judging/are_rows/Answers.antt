@@ -1,8 +1,7 @@
-use Rattle.std.proofs.Common.{◌≡◌, ◌<◌, length, sym, refl, inl, inr, arith, below_more}
+use Rattle.std.proofs.Common.{refl, arith, below_more}
 use Rattle.std.proofs.lemmas.List.{length-map}
 use Rattle.std.proofs.lemmas.Bool.{false≢true}
 use Rattle.std.proofs.lemmas.Bool.Decides.{not_from_Decides}
-use Rattle.orderings.specs.Fit.{Fit}
 use Rattle.orderings.proofs.Places.{row_read}
 use Rattle.sheets.proofs.judging.are_rows.Goals as goal
 use Rattle.sheets.proofs.judging.are_rows.Goals.{then-not-is_fit-via-then-not-is_fit, then-not-is_fit-via-else-not-is_fit+then-repeats}

@@ -1,4 +1,4 @@
-use Rattle.std.proofs.Common.{◌≡◌, refl, ap, ◌∙◌, arith, below_more}
+use Rattle.std.proofs.Common.{refl, ap, ◌∙◌, below_more}
 use Rattle.std.proofs.lemmas.Bool.Decides.{not_from_Decides}
 use Rattle.orderings.proofs.Places.{row_read}
 use Rattle.sheets.proofs.Tables.{row_differs}

@@ -1,4 +1,4 @@
-use Rattle.std.proofs.Common.{◌≡◌, ◌-◌, ◌≤◌, length, vec_items, vec_len, ap, arith}
+use Rattle.std.proofs.Common.{◌-◌, ◌≤◌, length, vec_items, ap, arith}
 use Rattle.std.proofs.lemmas.List.{length-map, length-take-le}
 use Rattle.sheets.proofs.Tables.{front_part}
 use Rattle.sheets.proofs.judging.rows_of.Goals as goal

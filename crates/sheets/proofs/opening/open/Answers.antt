@@ -1,4 +1,4 @@
-use Rattle.std.proofs.Common.{◌≡◌, sym, refl, ◌∙◌, inl, inr, arith}
+use Rattle.std.proofs.Common.{sym, refl, ◌∙◌, inr, arith}
 use Rattle.orderings.specs.Order.{VariableCount}
 use Rattle.sheets.specs.Sheet.{PlaceCount}
 use Rattle.sheets.proofs.Steps.{opened_by}

@@ -1,4 +1,4 @@
-use Rattle.std.proofs.Common.{◌≡◌, ◌<◌, ◌≤◌, map, length, arith}
+use Rattle.std.proofs.Common.{◌<◌, map, length, arith}
 use Rattle.std.proofs.lemmas.List.{length-map}
 use Rattle.orderings.proofs.Places.{row_read}
 use Rattle.sheets.proofs.Verdicts.{on_sheet, seen_on, told_complete, told_short}

@@ -1,4 +1,4 @@
-use Rattle.std.proofs.Common.{◌≡◌, ◌<◌, cond, [], ◌∷◌, length, vec_items, refl, ap, inl, inr, arith}
+use Rattle.std.proofs.Common.{◌<◌, length, refl, ap, inl, inr, arith}
 use Rattle.std.proofs.lemmas.List.{length-map}
 use Rattle.sheets.specs.Book.{opened, bar as to_bar}
 use Rattle.std.proofs.lemmas.Bool.Decides.{not_from_Decides}

@@ -1,4 +1,3 @@
-use Rattle.std.proofs.Common.{refl, inl, inr}
 use Rattle.std.proofs.lemmas.Bool.Decides.{not_from_Decides}
 use Rattle.sheets.specs.Book.{opened, verdict as to_verdict}
 use Rattle.sheets.proofs.Steps.{unmade_by}
