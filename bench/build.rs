@@ -7,7 +7,7 @@ fn main() {
         println!("cargo:rustc-link-search=native={path}");
     }
     println!("cargo:rustc-link-lib=static=engine");
-    println!("cargo:rustc-link-lib=static=rattle_c");
+    println!("cargo:rustc-link-lib=static=libc_c");
     if let Ok(folder) = std::env::var("ENGINE_FOLDER") {
         println!("cargo:rerun-if-changed={folder}/libengine.a");
     }

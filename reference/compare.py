@@ -1,7 +1,7 @@
 #!/usr/bin/env python3
 """Compares a sheetlog with the reference on logs made by seed.
 
-    python3 reference/compare.py --program target/bin/sheetlog \\
+    python3 reference/compare.py --program crates/sheetlog/out/sheetlog \\
         --seed 1 --count 10000 [--keep DIR] [--tally]
 
 The program is started once for each log.  The first differences are shown
