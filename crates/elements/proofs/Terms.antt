@@ -1,8 +1,11 @@
 -- Exponents by place and by variable. Assumes nothing.
-use Rattle.std.proofs.Common.{◌≡◌, ℕ, zero, suc, ◌+◌, ◌-◌, ◌<◌, ◌≤◌, Bool, cond, eqb, List, length, get_or, set, replicate, Decides, sym, refl, ap, ◌∙◌, inl, inr, arith}
+use Rattle.std.proofs.Common.{◌≡◌, ℕ, zero, suc, ◌+◌, ◌-◌, ◌<◌, ◌≤◌, Bool, true, false, cond, eqb, List, length, get_or, set, replicate, Decides, sym, refl, ap, ◌∙◌, inl, inr, arith}
 use Rattle.std.proofs.lemmas.List.FromFn.{length-map-range_with_len, get_or-map-range_with_len}
 use Rattle.std.proofs.lemmas.List.{get_or_past, ext_get_or, get_or-set_same, get_or-set_other, get_or-replicate, length-set}
-use Rattle.std.proofs.lemmas.Bool.{cases_lt, cases_eq, eq-eqb, ne_eqb, cond-true, cond-false, cond_both}
+use Rattle.std.proofs.lemmas.Slice.Zip.{length-zip, get_or-zip}
+use Rattle.std.specs.List.{zip, AllWithin, HoldsAt}
+use Rattle.std.specs.Bool.{MatchBool}
+use Rattle.std.proofs.lemmas.Bool.{false≢true, cases_lt, cases_eq, eq-eqb, ne_eqb, cond-true, cond-false, cond_both}
 use Rattle.elements.specs.Element.{Shown, entry, exponent, Divides, term, power, product, quotient, Variable, Overflows}
 
 -- a variable past the end has exponent 0
@@ -81,6 +84,16 @@ module _ (u w : Shown) (a b : List ℕ) (ea : a ≡ u.exponents) (eb : b ≡ w.e
   -- no greater exponent at any
   pub at_each : length a ≡ 8 → u.family ≡ w.family → ((k : ℕ) → k < 8 → get_or a k 0 ≤ get_or b k 0) → Divides u w
   at_each n f h = record { family = f; smaller = rw (← ea, ← eb) (each_variable a b n h) }
+
+  -- the pairs of exponents at one place, each tested
+  pub divides_by_pairs : (r : Bool) → length a ≡ 8 → length b ≡ 8 → u.family ≡ w.family →
+      MatchBool r (AllWithin (λ p. p.0 ≤ p.1) (zip a b) 0 (length (zip a b))) ((k : ℕ) × (k < length (zip a b)) × HoldsAt (λ p. p.1 < p.0) (zip a b) k) →
+      Decides r (Divides u w)
+  divides_by_pairs true n m f h =
+      (λ _. at_each n f (λ k l. rw (get_or-zip a b k (0, 0) (omega (arith, n)) (omega (arith, m))) at (h k (0, 0) (omega arith) (omega (arith, length-zip a b, n, m)))), λ _. refl)
+  divides_by_pairs false n m f (k, l, h) =
+      let at = rw (get_or-zip a b k (0, 0) (omega (arith, length-zip a b, n, m)) (omega (arith, length-zip a b, n, m))) at (h (0, 0)) in
+      (λ e. absurd (false≢true e), λ d. absurd (not_at k at d))
 
   -- differences that are written place by place
   pub quotient_written : (xs : List ℕ) → length xs ≡ 8 → ((k : ℕ) → k < 8 → get_or xs k 0 ≡ get_or b k 0 - get_or a k 0) → xs ≡ quotient u w

@@ -3,10 +3,12 @@
 
 ghost use Rattle.std.specs.Prelude.{◌≡◌, ℕ, ◌≤◌, Bool, true, ◌&&◌, ◌⊎◌, is_some, IfSome, Decides, MatchOption, ◌==◌, nat_le};
 ghost use Rattle.elements.specs.Element.{Shown, exponent, entry as entry_of, Divides, Variable, Overflows, power as to_the, product as multiplied, times, quotient as divided, blank as nothing};
-ghost use Rattle.std.proofs.Common.{rules};
+ghost use Rattle.std.proofs.Common.{ap, ◌∙◌, refl};
+ghost use Rattle.std.proofs.lemmas.Bool.Decides.{Decides-and, Decides-eqb};
+ghost use Rattle.std.proofs.lemmas.Slice.Eq.{slice_eq-Decides};
 
 // A kind of element. An element shows a family and eight exponents, and is known by them.
-pub trait Element: Copy + Clone {
+pub trait Element: Copy + Eq {
     ghost shown: { Self → Shown };
 
     // The families that the kind admits.
@@ -26,55 +28,38 @@ pub trait Element: Copy + Clone {
 
     // Two elements that show the same are the same.
     ghost known: { (x y : Self) → shown x ≡ shown y → x ≡ y };
+
+    // Two elements are equal exactly when they are the same.
+    ghost alike: { (x y : Self) → Decides (Self.eq x y) (x ≡ y) };
+}
+
+// A term with a family from LEAST to GREATEST.
+#[derive(Clone, Copy, PartialEq, Eq, Debug)]
+pub struct Term<const LEAST: u8, const GREATEST: u8> {
+    family: u8,
+    exponents: [u16; 8],
 }
 
 // A plain term: its only family is 0.
-#[derive(Clone, Copy)]
-pub struct PlainTerm {
-    family: u8,
-    exponents: [u16; 8],
-}
-
-impl Element for PlainTerm {
-    ghost shown = { λ t. record { family = t.family; exponents = t.exponents } };
-
-    ghost admitted = { λ f. (f == 0) };
-
-    ghost known = { Prim.search rules };
-
-    fn make(family: u8, exponents: [u16; 8]) -> PlainTerm {
-        PlainTerm { family, exponents }
-    }
-
-    fn family(&self) -> u8 {
-        self.family
-    }
-
-    fn exponents(&self) -> [u16; 8] {
-        self.exponents
-    }
-
-    fn admits(family: u8) -> bool {
-        family == 0
-    }
-}
+pub type PlainTerm = Term<0, 0>;
 
 // A derivative: its family, from 1 to 16, is the number of its unknown function.
-#[derive(Clone, Copy)]
-pub struct Derivative {
-    family: u8,
-    exponents: [u16; 8],
-}
+pub type Derivative = Term<1, 16>;
 
-impl Element for Derivative {
+impl<const LEAST: u8, const GREATEST: u8> Element for Term<LEAST, GREATEST> {
     ghost shown = { λ t. record { family = t.family; exponents = t.exponents } };
 
-    ghost admitted = { λ f. nat_le 1 f && nat_le f 16 };
+    ghost admitted = { λ f. nat_le LEAST f && nat_le f GREATEST };
 
-    ghost known = { Prim.search rules };
+    ghost known = { λ _ _ e. ap (λ (s : Shown). record { family = s.family; exponents = s.exponents }) e };
 
-    fn make(family: u8, exponents: [u16; 8]) -> Derivative {
-        Derivative { family, exponents }
+    ghost alike = { λ x y. let parts = Decides-and _ _ (Decides-eqb x.family y.family) (slice_eq-Decides Decides-eqb x.exponents y.exponents _ refl) in (
+        λ t. ap (λ (f : ℕ). record { family = f; exponents = x.exponents }) (parts.0 t).0 ∙ ap (λ e. record { family = y.family; exponents = e }) (parts.0 t).1,
+        λ e. parts.1 (ap (λ t. t.family) e, ap (λ t. t.exponents) e)
+    ) };
+
+    fn make(family: u8, exponents: [u16; 8]) -> Self {
+        Term { family, exponents }
     }
 
     fn family(&self) -> u8 {
@@ -86,7 +71,7 @@ impl Element for Derivative {
     }
 
     fn admits(family: u8) -> bool {
-        family >= 1 && family <= 16
+        (LEAST..=GREATEST).contains(&family)
     }
 }
 
@@ -111,7 +96,7 @@ pub fn exponent_of(exponents: &[u16; 8], variable: u8) -> u16
 pub fn same<E: Element>(a: &E, b: &E) -> bool
     ensures { Decides result (a.now ≡ b.now) }
 {
-    a.family() == b.family() && a.exponents() == b.exponents()
+    a == b
 }
 
 // Whether the divisor divides the multiple.
@@ -121,15 +106,8 @@ pub fn divides<E: Element>(divisor: &E, multiple: &E) -> bool
     if divisor.family() != multiple.family() {
         return false;
     }
-    let small = divisor.exponents();
-    let large = multiple.exponents();
-    for i in 0..8 {
-        let (least, given) = (small[i], large[i]);
-        if least > given {
-            return false;
-        }
-    }
-    true
+    let (small, large) = (divisor.exponents(), multiple.exponents());
+    small.iter().zip(large.iter()).all(|(least, given)| least <= given)
 }
 
 // The multiple over the divisor: the term of the differences, or none where the divisor does not divide it.
@@ -141,10 +119,9 @@ pub fn quotient<E: Element>(divisor: &E, multiple: &E) -> Option<[u16; 8]>
         return None;
     }
     let small = divisor.exponents();
-    let large = multiple.exponents();
-    let mut term = [0u16; 8];
-    for i in 0..8 {
-        term[i] = large[i] - small[i];
+    let mut term = multiple.exponents();
+    for (i, least) in small.iter().enumerate() {
+        term[i] -= *least;
     }
     Some(term)
 }
@@ -166,8 +143,8 @@ pub fn product<E: Element>(element: &E, term: &[u16; 8]) -> Option<E>
     ensures { MatchOption result (Overflows (E.Element.shown element.now) term.now) (λ p. E.Element.shown p ≡ multiplied (E.Element.shown element.now) term.now) }
 {
     let mut sums = element.exponents();
-    for i in 0..8 {
-        sums[i] = sums[i].checked_add(term[i])?;
+    for (i, degree) in term.iter().enumerate() {
+        sums[i] = sums[i].checked_add(*degree)?;
     }
     Some(E::make(element.family(), sums))
 }

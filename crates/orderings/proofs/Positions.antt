@@ -1,7 +1,9 @@
 -- The positions of an ordering. Assumes nothing.
-use Rattle.std.proofs.Common.{◌≡◌, ℕ, zero, suc, ◌-◌, ◌<◌, ◌≤◌, min, List, sym, ◌∙◌, inl, inr, arith}
-use Rattle.std.proofs.lemmas.List.{get_or_past}
-use Rattle.std.proofs.lemmas.Bool.{cases_lt, cases_order}
+use Rattle.std.proofs.Common.{◌≡◌, ℕ, zero, suc, ◌+◌, ◌-◌, ◌<◌, ◌≤◌, min, Bool, true, false, List, length, take, drop, get_or, Decides, sym, refl, ap, ◌∙◌, inl, inr, arith}
+use Rattle.std.specs.Bool.{MatchBool}
+use Rattle.std.specs.List.{AllWithin, HoldsAt}
+use Rattle.std.proofs.lemmas.List.{get_or_past, get_or-take, get_or-drop, length-drop}
+use Rattle.std.proofs.lemmas.Bool.{cases_lt, cases_order, false≢true}
 use Rattle.orderings.specs.Order.{at, IsOrdering, EachVariableStandsOnce}
 
 -- n different numbers below n are all of them
@@ -49,3 +51,30 @@ pub each_variable_stands_once : EachVariableStandsOnce
 each_variable_stands_once n order o v low high =
     let (k, hk, e) = position n order o v low high in
     (k, hk, e, λ j f. one_position n order o j k (omega (arith, f)) (f ∙ sym e))
+
+-- the first n bytes are variables, all different; the rest is 0 exactly where the list is an ordering
+pub ordering_by_parts : (n : ℕ) (list : List ℕ) (r : Bool) → n ≤ 8 → length list ≡ 8 →
+    ((i : ℕ) → i < n → (1 ≤ get_or (take n list) i 0) × (get_or (take n list) i 0 ≤ n) × ((j : ℕ) → j < i → get_or (take n list) j 0 ≡ get_or (take n list) i 0 → ⊥)) →
+    MatchBool r (AllWithin (λ x. x ≡ 0) (drop n list) 0 (length (drop n list))) ((k : ℕ) × (k < length (drop n list)) × HoldsAt (λ x. x ≡ 0 → ⊥) (drop n list) k) →
+    Decides r (IsOrdering n list)
+ordering_by_parts n list r most eight first rest = told r rest
+  where
+    taken : (k : ℕ) → k < n → get_or (take n list) k 0 ≡ at list k
+    taken k l = get_or-take n list k 0 l
+    told : (r : Bool) → MatchBool r (AllWithin (λ x. x ≡ 0) (drop n list) 0 (length (drop n list))) ((k : ℕ) × (k < length (drop n list)) × HoldsAt (λ x. x ≡ 0 → ⊥) (drop n list) k) → Decides r (IsOrdering n list)
+    told true zero_rest = (
+      λ _. record {
+        eight = eight;
+        low = λ k l. rw (← taken k l) (first k l).0;
+        high = λ k l. rw (← taken k l) (first k l).1;
+        distinct = λ j k h l. rw (← taken j (omega arith), ← taken k l) ((first k l).2 j h);
+        zeros = λ k l. elim (cases_lt k 8) [
+          | inl h ↦ (let e : n + (k - n) ≡ k = omega arith in
+              ap (at list) (sym e) ∙ sym (get_or-drop n list (k - n) 0) ∙ zero_rest (k - n) 0 (omega arith) (omega (arith, length-drop n list, eight)))
+          | inr h ↦ get_or_past list k 0 (omega arith)
+        ];
+      },
+      λ _. refl,
+    )
+    told false (k, l, h) =
+        (λ e. absurd (false≢true e), λ o. absurd (h 0 (get_or-drop n list k 0 ∙ o.zeros (n + k) (omega arith))))

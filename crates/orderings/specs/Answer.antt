@@ -1,5 +1,7 @@
 -- What calls answer: the numbers and values behind every case. Assumes nothing.
 use Rattle.std.specs.Prelude.{◌≡◌, ℕ, ◌⊎◌, List, [], ◌∷◌, Ok, Err, Result}
+use Rattle.std.specs.declared.cmp.Ordering.{Ordering}
+use Rattle.std.specs.declared.cmp.Ordering.TheVariants.{Less, Equal, Greater}
 use Rattle.orderings.specs.declared.refusals.Refusal.{Refusal}
 use Rattle.orderings.specs.declared.refusals.Refusal.TheVariants.{VariableCount, PlaceCount, OrderLength, NotASheet, UnfitElement, NoSuchBar, NotAnOrdering, NoRows, AlreadyARow, TableFull, NotARow, NoOrdering, NoCone}
 use Rattle.orderings.specs.declared.comparing.Comparison.{Comparison}
@@ -50,6 +52,12 @@ abbrev pub standing : Comparison → ℕ
 standing Below = 0
 standing Same = 1
 standing Above = 2
+
+-- the case of compare that an ordering of two numbers is
+abbrev pub comparison : Ordering → Comparison
+comparison Less = Below
+comparison Equal = Same
+comparison Greater = Above
 
 -- what a call answers, by what its granted result tells
 abbrev pub answer : {R : Type 0} → (R → List ℕ) → Result R Refusal → Answer

@@ -1,7 +1,7 @@
 // Which of two elements is below the other.
 ghost use Rattle.std.specs.Prelude.{◌≡◌, [], ◌∷◌, length, MatchOption};
 ghost use Rattle.orderings.specs.Order.{Agree, DifferAt};
-ghost use Rattle.orderings.specs.Answer.{answer, standing as standing_of};
+ghost use Rattle.orderings.specs.Answer.{answer, standing as standing_of, comparison};
 ghost use Rattle.orderings.specs.Compare.{Compares, CompareIsATotalOrder, CompareHasOneAnswer, SwappingMirrorsCompare};
 ghost use Rattle.orderings.specs.Stands.{StandsAs};
 
@@ -9,6 +9,7 @@ use crate::fitting::*;
 use crate::orders::*;
 use crate::refusals::*;
 use elements::{Element, exponent_of};
+use std::cmp::Ordering;
 
 // How the first of two elements stands to the second.
 #[derive(Clone, Copy, PartialEq, Eq, Debug)]
@@ -18,15 +19,27 @@ pub enum Comparison {
     Above,
 }
 
-impl Comparison {
-    // The number by which it is told: 0 for below, 1 for the same, 2 for above.
-    pub fn number(&self) -> u8
-        ensures { result ≡ standing_of self.now }
-    {
-        match self {
+// The number by which it is told: 0 for below, 1 for the same, 2 for above.
+impl From<Comparison> for u8 {
+    ghost from_gives = { λ c n. n ≡ standing_of c };
+
+    fn from(comparison: Comparison) -> u8 {
+        match comparison {
             Comparison::Below => 0,
             Comparison::Same => 1,
             Comparison::Above => 2,
+        }
+    }
+}
+
+impl From<Ordering> for Comparison {
+    ghost from_gives = { λ o c. c ≡ comparison o };
+
+    fn from(ordering: Ordering) -> Comparison {
+        match ordering {
+            Ordering::Less => Comparison::Below,
+            Ordering::Equal => Comparison::Same,
+            Ordering::Greater => Comparison::Above,
         }
     }
 }
@@ -35,41 +48,26 @@ impl Comparison {
 pub fn part_at<E: Element>(u: &E, w: &E, order: &[u8]) -> Option<usize>
     ensures { MatchOption result (Agree order.now (length order.now) (E.Element.shown u.now) (E.Element.shown w.now)) (λ k. DifferAt order.now k (E.Element.shown u.now) (E.Element.shown w.now)) }
 {
-    let a = u.exponents();
-    let b = w.exponents();
-    for k in 0..order.len() {
-        let variable = order[k];
-        let x = exponent_of(&a, variable);
-        let y = exponent_of(&b, variable);
-        if x != y {
-            return Some(k);
-        }
-    }
-    None
+    let (a, b) = (u.exponents(), w.exponents());
+    order
+        .iter()
+        .position(|v| exponent_of(&a, *v) != exponent_of(&b, *v))
 }
 
 // How u stands to w by family, and then by the exponents of the listed variables, the first listed first.
 fn standing<E: Element>(u: &E, w: &E, order: &[u8]) -> Comparison
     ensures { StandsAs order.now (E.Element.shown u.now) (E.Element.shown w.now) result }
 {
-    if u.family() != w.family() {
-        return if u.family() < w.family() {
-            Comparison::Below
-        } else {
-            Comparison::Above
-        };
+    let families = u.family().cmp(&w.family());
+    if families.is_ne() {
+        return Comparison::from(families);
     }
     match part_at(u, w, order) {
         None => Comparison::Same,
         Some(k) => {
             let v = order[k];
-            let x = exponent_of(&u.exponents(), v);
-            let y = exponent_of(&w.exponents(), v);
-            if x < y {
-                Comparison::Below
-            } else {
-                Comparison::Above
-            }
+            let exponents = exponent_of(&u.exponents(), v).cmp(&exponent_of(&w.exponents(), v));
+            Comparison::from(exponents)
         }
     }
 }
@@ -82,7 +80,7 @@ pub fn compare<E: Element>(u: &E, w: &E, n: u8, order: &[u8]) -> Result<Comparis
     ensures once { CompareHasOneAnswer }
     ensures mirrored { SwappingMirrorsCompare }
 {
-    if n < 1 || n > MOST_VARIABLES {
+    if !is_variable_count(n) {
         return Err(Refusal::VariableCount);
     }
     if !is_fit(u, n) || !is_fit(w, n) {

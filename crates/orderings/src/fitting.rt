@@ -2,7 +2,7 @@
 ghost use Rattle.std.specs.Prelude.{Decides};
 ghost use Rattle.orderings.specs.Fit.{Admitted, Fit};
 
-use elements::{Element, exponent_of};
+use elements::Element;
 
 // The largest exponent of a row.
 pub const LARGEST: u16 = 4095;
@@ -14,10 +14,8 @@ pub fn is_admitted<E: Element>(element: &E, n: u8) -> bool
     if !E::admits(element.family()) {
         return false;
     }
-    let exponents = element.exponents();
-    for v in 1..=8 {
-        let exponent = exponent_of(&exponents, v);
-        if v > n && exponent > 0 {
+    for (i, exponent) in element.exponents().iter().enumerate() {
+        if i >= n as usize && *exponent > 0 {
             return false;
         }
     }
@@ -28,14 +26,9 @@ pub fn is_admitted<E: Element>(element: &E, n: u8) -> bool
 pub fn is_fit<E: Element>(element: &E, n: u8) -> bool
     ensures { Decides result (Fit E.Element.admitted n (E.Element.shown element.now)) }
 {
-    if !is_admitted(element, n) {
-        return false;
-    }
-    let exponents = element.exponents();
-    for variable in 1..=8 {
-        if exponent_of(&exponents, variable) > LARGEST {
-            return false;
-        }
-    }
-    true
+    is_admitted(element, n)
+        && element
+            .exponents()
+            .iter()
+            .all(|exponent| *exponent <= LARGEST)
 }

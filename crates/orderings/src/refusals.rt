@@ -32,12 +32,12 @@ pub enum Refusal {
     NoCone,
 }
 
-impl Refusal {
-    // The number by which the refusal is told.
-    pub fn number(&self) -> u8
-        ensures { result ≡ number_of self.now }
-    {
-        match self {
+// The number by which the refusal is told.
+impl From<Refusal> for u8 {
+    ghost from_gives = { λ r n. n ≡ number_of r };
+
+    fn from(refusal: Refusal) -> u8 {
+        match refusal {
             Refusal::VariableCount => 5,
             Refusal::PlaceCount => 6,
             Refusal::OrderLength => 7,

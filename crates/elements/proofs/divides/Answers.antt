@@ -1,16 +1,12 @@
-use Rattle.std.proofs.Common.{◌≡◌, length, sym, refl, ◌∙◌, arith}
-use Rattle.std.proofs.lemmas.Bool.{false≢true}
-use Rattle.elements.proofs.Terms.{not_at, at_each}
+use Rattle.std.proofs.Common.{ℕ, ◌<◌, ◌≤◌, rules, tests, sym, ◌∙◌, arith}
+use Rattle.std.proofs.lemmas.Iterator.{cases_from_all, YieldsList-from_slice, YieldsList-from_zip}
+use Rattle.elements.proofs.Terms.{divides_by_pairs}
 use Rattle.elements.proofs.divides.Goals as goal
-
-pub returns-then-least-given : goal.returns-then-least-given
-returns-then-least-given g c =
-    (λ e. absurd (false≢true e), λ d. absurd (not_at _ _ _ _ c.exponents-small.ensures c.exponents-large.ensures c.loop-i.i (omega arith) d))
 
 pub returns : goal.returns
 returns g c =
-    let n : length c.exponents-small.result ≡ 8 = omega arith in (
-      λ _. at_each _ _ _ _ c.exponents-small.ensures c.exponents-large.ensures n
-          (sym c.family.ensures ∙ c.if-family.false ∙ c.family-2.ensures) (λ k l. c.loop-i.invariant k (omega arith)),
-      λ _. refl,
-    )
+    divides_by_pairs _ _ _ _ c.exponents-small.ensures c.exponents-large.ensures _ (omega arith) (omega arith)
+    (sym c.family.ensures ∙ c.if-family.false ∙ c.family-2.ensures)
+    (cases_from_all c.all.new.self _ _ (λ (p : ℕ × ℕ). p.0 ≤ p.1) (λ p. p.1 < p.0) c.all.ensures.ran
+     (YieldsList-from_zip (YieldsList-from_slice c.exponents-small.result cc) (YieldsList-from_slice c.exponents-large.result cc))
+     (λ x q k. search (rules, tests)) (λ x q k. search (rules, tests)))

@@ -5,13 +5,10 @@ use Rattle.orderings.proofs.Lines.{compare_is_a_total_order}
 use Rattle.orderings.proofs.comparing.compare.Goals as goal
 use Rattle.orderings.proofs.comparing.compare.Goals.{then-not-is_fit-via-then-not-is_fit, then-not-is_fit-via-else-not-is_fit+then-not-is_fit-2}
 
-pub returns-then-n-lt1 : goal.returns-then-n-lt1
-returns-then-n-lt1 g c = record {
+pub returns-then-not-is_variable_count : goal.returns-then-not-is_variable_count
+returns-then-not-is_variable_count g c = record {
   answers = inl (
-    λ v. elim c.then-n-lt1.either [
-      | inl l ↦ omega (arith, v.some)
-      | inr h ↦ omega (arith, h.1, v.most)
-    ],
+    not_from_Decides _ c.is_variable_count.ensures c.if-not-is_variable_count.true,
     refl,
   );
   total = compare_is_a_total_order;
@@ -22,7 +19,7 @@ returns-then-n-lt1 g c = record {
 pub returns-then-not-is_fit : goal.returns-then-not-is_fit
 returns-then-not-is_fit g c = record {
   answers = inr (
-    record { some = c.if-n-lt1.false; most = c.if-n-gt-MOST_VARIABLES.false },
+    c.if-not-is_variable_count.ensures.0 refl,
     inl (
       λ f. elim c.then-not-is_fit.branch [
         | then-not-is_fit-via-then-not-is_fit w ↦ not_from_Decides _ c.is_fit.ensures w.if-not-is_fit.true f.0
@@ -39,7 +36,7 @@ returns-then-not-is_fit g c = record {
 pub returns-then-not-is_ordering : goal.returns-then-not-is_ordering
 returns-then-not-is_ordering g c = record {
   answers = inr (
-    record { some = c.if-n-lt1.false; most = c.if-n-gt-MOST_VARIABLES.false },
+    c.if-not-is_variable_count.ensures.0 refl,
     inr (
       (c.if-not-is_fit.ensures.0 refl, c.if-not-is_fit-2.ensures.0 refl),
       inl (not_from_Decides _ c.is_ordering.ensures.test c.if-not-is_ordering.true, refl),
@@ -57,7 +54,7 @@ returns g c =
     let w = c.if-not-is_fit-2.ensures.0 refl in
     record {
       answers = inr (
-        record { some = c.if-n-lt1.false; most = c.if-n-gt-MOST_VARIABLES.false },
+        c.if-not-is_variable_count.ensures.0 refl,
         inr ((u, w), inr (o, stands_from g.E.Element.admitted c.args.n c.args.order.now (g.E.Element.shown c.args.u.now) (g.E.Element.shown c.args.w.now) c.standing.result o u w c.standing.ensures)),
       );
       total = compare_is_a_total_order;

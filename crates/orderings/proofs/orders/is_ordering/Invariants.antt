@@ -5,7 +5,4 @@ use Rattle.orderings.proofs.orders.is_ordering.Given as goal
 abbrev pub invariant-loop-k : goal.invariant-loop-k
 invariant-loop-k l =
     (i : ℕ) → i < l.k →
-    (1 ≤ get_or l.list i 0) × (get_or l.list i 0 ≤ l.n) × ((j : ℕ) → j < i → get_or l.list j 0 ≡ get_or l.list i 0 → ⊥)
-
-abbrev pub invariant-loop-rest : goal.invariant-loop-rest
-invariant-loop-rest l = (i : ℕ) → l.count ≤ i → i < l.rest → get_or l.list i 0 ≡ 0
+    (1 ≤ get_or l.variables i 0) × (get_or l.variables i 0 ≤ l.n) × ((j : ℕ) → j < i → get_or l.variables j 0 ≡ get_or l.variables i 0 → ⊥)
