@@ -54,8 +54,8 @@ impl<const LEAST: u8, const GREATEST: u8> Element for Term<LEAST, GREATEST> {
     ghost known = { λ _ _ e. ap (λ (s : Shown). record { family = s.family; exponents = s.exponents }) e };
 
     ghost alike = { λ x y. let parts = Decides-and _ _ (Decides-eqb x.family y.family) (slice_eq-Decides Decides-eqb x.exponents y.exponents _ refl) in (
-        λ t. ap (λ (f : ℕ). record { family = f; exponents = x.exponents }) (parts.0 t).0 ∙ ap (λ e. record { family = y.family; exponents = e }) (parts.0 t).1,
-        λ e. parts.1 (ap (λ t. t.family) e, ap (λ t. t.exponents) e)
+      λ t. ap (λ (f : ℕ). record { family = f; exponents = x.exponents }) (parts.0 t).0 ∙ ap (λ e. record { family = y.family; exponents = e }) (parts.0 t).1,
+      λ e. parts.1 (ap (λ t. t.family) e, ap (λ t. t.exponents) e),
     ) };
 
     fn make(family: u8, exponents: [u16; 8]) -> Self {
@@ -74,6 +74,12 @@ impl<const LEAST: u8, const GREATEST: u8> Element for Term<LEAST, GREATEST> {
         (LEAST..=GREATEST).contains(&family)
     }
 }
+
+// The families of the two kinds in use.
+pub fn kinds_in_use()
+    ensures plain_term { (f : ℕ) → ⟦<PlainTerm as Element>⟧.admitted f ≡ (f == 0) }
+    ensures derivative { (f : ℕ) → ⟦<Derivative as Element>⟧.admitted f ≡ (nat_le 1 f && nat_le f 16) }
+{}
 
 // What stands in a place without a row, in either kind: family 0, every exponent 0.
 pub fn blank<E: Element>() -> E
@@ -107,7 +113,10 @@ pub fn divides<E: Element>(divisor: &E, multiple: &E) -> bool
         return false;
     }
     let (small, large) = (divisor.exponents(), multiple.exponents());
-    small.iter().zip(large.iter()).all(|(least, given)| least <= given)
+    small
+        .iter()
+        .zip(large.iter())
+        .all(|(least, given)| least <= given)
 }
 
 // The multiple over the divisor: the term of the differences, or none where the divisor does not divide it.

@@ -61,6 +61,7 @@ ordering_by_parts n list r most eight first rest = told r rest
   where
     taken : (k : ℕ) → k < n → get_or (take n list) k 0 ≡ at list k
     taken k l = get_or-take n list k 0 l
+
     told : (r : Bool) → MatchBool r (AllWithin (λ x. x ≡ 0) (drop n list) 0 (length (drop n list))) ((k : ℕ) × (k < length (drop n list)) × HoldsAt (λ x. x ≡ 0 → ⊥) (drop n list) k) → Decides r (IsOrdering n list)
     told true zero_rest = (
       λ _. record {

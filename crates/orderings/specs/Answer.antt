@@ -1,5 +1,5 @@
 -- What calls answer: the numbers and values behind every case. Assumes nothing.
-use Rattle.std.specs.Prelude.{◌≡◌, ℕ, ◌⊎◌, List, [], ◌∷◌, Ok, Err, Result}
+use Rattle.std.specs.Prelude.{◌≡◌, ℕ, ◌⊎◌, List, [], ◌∷◌, Ok, Err, Result, codes}
 use Rattle.std.specs.declared.cmp.Ordering.{Ordering}
 use Rattle.std.specs.declared.cmp.Ordering.TheVariants.{Less, Equal, Greater}
 use Rattle.orderings.specs.declared.refusals.Refusal.{Refusal}
@@ -43,6 +43,22 @@ values TableFull = []
 values NotARow = []
 values (NoOrdering tested) = tested ∷ []
 values NoCone = []
+
+-- a refusal in words
+abbrev pub reason : Refusal → List ℕ
+reason VariableCount = codes "the variable count is not 1 to 8"
+reason PlaceCount = codes "the table does not have 1 to 64 places"
+reason OrderLength = codes "the order bytes are not eight"
+reason NotASheet = codes "the parts do not make a sheet"
+reason UnfitElement = codes "the element does not fit the sheet"
+reason NoSuchBar = codes "there is no such row or variable"
+reason NotAnOrdering = codes "the list is not an ordering of the variables"
+reason NoRows = codes "there is no row to judge"
+reason AlreadyARow = codes "the element is a row already"
+reason TableFull = codes "every place is taken"
+reason NotARow = codes "the element is not a row"
+reason (NoOrdering tested) = codes "no ordering makes the rows complete"
+reason NoCone = codes "no cone holds the element"
 
 abbrev pub refusal : Refusal → Answer
 refusal r = refused (number r) (values r)

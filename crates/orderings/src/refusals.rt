@@ -1,6 +1,8 @@
 // Why a call on a sheet is refused.
-ghost use Rattle.std.specs.Prelude.{◌≡◌};
-ghost use Rattle.orderings.specs.Answer.{number as number_of};
+ghost use Rattle.std.specs.Prelude.{◌≡◌, Some};
+ghost use Rattle.orderings.specs.Answer.{number as number_of, reason};
+
+use std::fmt;
 
 #[derive(Clone, Copy, PartialEq, Eq, Debug)]
 pub enum Refusal {
@@ -52,5 +54,28 @@ impl From<Refusal> for u8 {
             Refusal::NoOrdering(_) => 16,
             Refusal::NoCone => 17,
         }
+    }
+}
+
+// What the refusal says, in words.
+impl fmt::Display for Refusal {
+    ghost output = { λ r. Some (reason r) };
+
+    fn fmt<W: fmt::Write>(&self, f: &mut fmt::Formatter<W>) -> fmt::Result {
+        f.write_str(match self {
+            Refusal::VariableCount => "the variable count is not 1 to 8",
+            Refusal::PlaceCount => "the table does not have 1 to 64 places",
+            Refusal::OrderLength => "the order bytes are not eight",
+            Refusal::NotASheet => "the parts do not make a sheet",
+            Refusal::UnfitElement => "the element does not fit the sheet",
+            Refusal::NoSuchBar => "there is no such row or variable",
+            Refusal::NotAnOrdering => "the list is not an ordering of the variables",
+            Refusal::NoRows => "there is no row to judge",
+            Refusal::AlreadyARow => "the element is a row already",
+            Refusal::TableFull => "every place is taken",
+            Refusal::NotARow => "the element is not a row",
+            Refusal::NoOrdering(_) => "no ordering makes the rows complete",
+            Refusal::NoCone => "no cone holds the element",
+        })
     }
 }

@@ -1,4 +1,4 @@
-use Rattle.std.proofs.Common.{refl, inl, inr, arith}
+use Rattle.std.proofs.Common.{refl, inl, inr}
 use Rattle.std.proofs.lemmas.Bool.Decides.{not_from_Decides}
 use Rattle.orderings.proofs.Compared.{stands_from, compare_has_one_answer, swapping_mirrors_compare}
 use Rattle.orderings.proofs.Lines.{compare_is_a_total_order}
