@@ -1,8 +1,10 @@
 -- What the code finds of bars. Assumes nothing.
-use Rattle.std.proofs.Common.{◌≡◌, ℕ, zero, suc, ◌+◌, ◌<◌, ◌≤◌, Bool, true, false, not, List, length, is_some, Some, None, Decides, Option, sym, refl, ap, ◌∙◌, inl, inr, add-one, arith}
-use Rattle.std.proofs.lemmas.List.{get_or_past}
+use Rattle.std.proofs.Common.{◌≡◌, ℕ, zero, suc, ◌<◌, ◌≤◌, Bool, true, false, not, List, length, map, take, get_or, is_some, Some, None, Decides, Option, sym, refl, ap, ◌∙◌, inl, inr, arith}
+use Rattle.std.specs.Bool.{MatchBool}
+use Rattle.std.specs.List.{AllWithin, HoldsAt}
+use Rattle.std.proofs.lemmas.List.{get_or_past, get_or-map, get_or-take, length-take}
 use Rattle.std.proofs.lemmas.Bool.{cases_lt, cases_eq, and_left, and_right, and_from, not_from_true, not_from_false, not-false, not-true, both_ways}
-use Rattle.elements.specs.Element.{Shown, exponent}
+use Rattle.elements.specs.Element.{Shown, exponent, blank}
 use Rattle.orderings.specs.Order.{at, Agree, DifferAt}
 use Rattle.orderings.specs.Rows.{row}
 use Rattle.barcode.specs.Bars.{position, SameBar, LowerBar, Star, same_bar, opens_bar}
@@ -49,14 +51,29 @@ module _ (rows : List Shown) (order : List ℕ) (v q : ℕ) where
     | inr ne ↦ and_right (not (same_bar order v (row rows k) (row rows q))) _ (opens_not j k (omega arith) s)
   ]
 
-  pub opens_more : (k : ℕ) → opens_bar rows order v q k ≡ true → (SameBar order v (row rows k) (row rows q) → ⊥) → opens_bar rows order v q (k + 1) ≡ true
-  opens_more k t h =
-      rw add-one (and_from (not (same_bar order v (row rows k) (row rows q))) _
-      (not_from_false _ (false_from (same_bar order v (row rows k) (row rows q)) (same_bar_decides order v (row rows k) (row rows q)) h)) t)
+  opens_all : (k : ℕ) → ((j : ℕ) → j < k → SameBar order v (row rows j) (row rows q) → ⊥) → opens_bar rows order v q k ≡ true
+  opens_all zero h = refl
+  opens_all (suc k) h =
+      and_from (not (same_bar order v (row rows k) (row rows q))) _
+      (not_from_false _ (false_from (same_bar order v (row rows k) (row rows q)) (same_bar_decides order v (row rows k) (row rows q)) (h k (omega arith))))
+      (opens_all k (λ j l. h j (omega arith)))
     where
       false_from : (b : Bool) → Decides b (SameBar order v (row rows k) (row rows q)) → (SameBar order v (row rows k) (row rows q) → ⊥) → b ≡ false
       false_from true d h = absurd (h (d.0 refl))
       false_from false d h = refl
+
+-- what the code finds among the rows before place q
+module _ {X : Type 0} (shown : X → Shown) (xs : List X) (order : List ℕ) (v q : ℕ) (u : X) (l : q < length xs) (e : row (map shown xs) q ≡ shown u) where
+  before : (k : ℕ) → k < q → row (map shown xs) k ≡ shown (get_or (take q xs) k u)
+  before k h = get_or-map shown xs k u blank (omega arith) ∙ ap shown (sym (get_or-take q xs k u h))
+
+  pub opens_told : (r : Bool) → MatchBool r ((k : ℕ) × (k < length (take q xs)) × HoldsAt (λ x. SameBar order v (shown x) (shown u)) (take q xs) k)
+      (AllWithin (λ x. SameBar order v (shown x) (shown u) → ⊥) (take q xs) 0 (length (take q xs))) → not r ≡ opens_bar (map shown xs) order v q q
+  opens_told true (k, h, s) =
+      let small : k < q = omega (arith, length-take q xs) in
+      sym (opens_not (map shown xs) order v q k q small (rw (before k small, e) (s u)))
+  opens_told false none =
+      sym (opens_all (map shown xs) order v q q (λ j h. rw (before j h, e) (none j u (omega arith) (omega (arith, length-take q xs)))))
 
 -- a star is the absence of a gap
 pub star_decides : (rows : List Shown) (order : List ℕ) (u : Shown) (v : ℕ) (o : Option ℕ) (r : Bool) → is_some o ≡ not r → IsGap rows order u v o → Decides r (Star rows order u v)

@@ -1,12 +1,12 @@
 -- The gap as a function is the gap in words. Assumes nothing.
-use Rattle.std.proofs.Common.{◌≡◌, ℕ, ◌+◌, ◌-◌, ◌<◌, ◌≤◌, Bool, true, false, cond, ltb, List, map, length, drop, Some, None, Option, sym, refl, ap, ◌∙◌, subst, arith}
-use Rattle.std.proofs.lemmas.List.{length-map, drop_all}
+use Rattle.std.proofs.Common.{◌≡◌, ℕ, ◌+◌, ◌-◌, ◌<◌, ◌≤◌, Bool, true, false, cond, ltb, List, map, length, Some, None, Option, sym, refl, ap, ◌∙◌, subst, arith}
+use Rattle.std.proofs.lemmas.List.{length-map}
 use Rattle.std.proofs.lemmas.Bool.{lt-ltb, le-ltb, cond-true, cond-false}
 use Rattle.elements.specs.Element.{Shown, blank}
 use Rattle.orderings.specs.Rows.{row}
 use Rattle.barcode.specs.Bars.{Rises}
-use Rattle.barcode.specs.Gap.{height, IsGap, rises, rise, lesser, least, gap}
-use Rattle.barcode.proofs.Least.{lesser_none, least_under, least_found}
+use Rattle.barcode.specs.Gap.{height, IsGap, rises, rise, least, gap}
+use Rattle.barcode.proofs.Least.{least_under, least_found}
 use Rattle.barcode.proofs.Tested.{rises_decides, rise_some}
 
 cond_some : (b : Bool) (x d : ℕ) → cond b (Some x) None ≡ Some d → (b ≡ true) × (x ≡ d)
@@ -48,13 +48,11 @@ module _ {X : Type 0} (shown : X → Shown) (order : List ℕ) (v : ℕ) where
   pub gap_past : (xs : List X) (p : ℕ) → length xs ≤ p → None ≡ gap (map shown xs) order p v
   gap_past xs p l = sym (cond-false _ _ _ (le-ltb p (length (map shown xs)) (omega (arith, length-map xs shown))))
 
-  -- the loop over the rows has ended
-  pub gap_all : (xs : List X) (p i : ℕ) (u : Shown) (best : Option ℕ) → p < length xs → row (map shown xs) p ≡ u → length xs ≤ i →
-      lesser best (least (map (rise order v u) (map shown (drop i xs)))) ≡ least (map (rise order v u) (map shown xs)) →
+  -- the least rise of all rows
+  pub gap_all : (xs : List X) (p : ℕ) (u : Shown) (best : Option ℕ) → p < length xs → row (map shown xs) p ≡ u → best ≡ least (map (rise order v u) (map shown xs)) →
       best ≡ gap (map shown xs) order p v
-  gap_all xs p i u best l e past inv =
-      sym (lesser_none best) ∙ ap (λ ys. lesser best (least (map (rise order v u) (map shown ys)))) (sym (drop_all i xs past)) ∙ inv ∙
-      ap (λ (w : Shown). least (map (rise order v w) (map shown xs))) (sym e) ∙
+  gap_all xs p u best l e inv =
+      inv ∙ ap (λ (w : Shown). least (map (rise order v w) (map shown xs))) (sym e) ∙
       sym (cond-true (ltb p (length (map shown xs))) _ None (lt-ltb p (length (map shown xs)) (omega (arith, length-map xs shown))))
 
   -- what the code returned is the gap in words

@@ -1,6 +1,6 @@
 -- The smallest of a list of numbers that may be absent. Assumes nothing.
-use Rattle.std.proofs.Common.{◌≡◌, ℕ, zero, suc, ◌+◌, ◌<◌, ◌≤◌, min, ◌⊎◌, List, [], ◌∷◌, map, length, get_or, drop, Some, None, Option, refl, ap, ◌∙◌, inl, inr, arith}
-use Rattle.std.proofs.lemmas.List.{drop_more}
+use Rattle.std.proofs.Common.{◌≡◌, ℕ, zero, suc, ◌<◌, ◌≤◌, min, ◌⊎◌, List, [], ◌∷◌, map, length, get_or, Some, None, Option, sym, refl, ap, ◌∙◌, inl, inr, arith}
+use Rattle.std.specs.List.{fold, reduce, filter_map, cons_option}
 use Rattle.std.proofs.lemmas.Bool.{cases_lt}
 use Rattle.barcode.specs.Gap.{lesser, least}
 
@@ -14,12 +14,18 @@ pub lesser_none : (a : Option ℕ) → lesser a None ≡ a
 lesser_none None = refl
 lesser_none (Some x) = refl
 
--- one row more: f is what a row gives, r what the row at i gave
-pub least_more : {X Y : Type 0} (f : Y → Option ℕ) (h : X → Y) (xs : List X) (i : ℕ) (x : X) (best r : Option ℕ) → i < length xs → x ≡ get_or xs i x → r ≡ f (h x) →
-    lesser (lesser best r) (least (map f (map h (drop (i + 1) xs)))) ≡ lesser best (least (map f (map h (drop i xs))))
-least_more f h xs i x best r l e q =
-    let d = drop_more xs i x l in
-    lesser_assoc best r _ ∙ ap (lesser best) (rw (d, ← e, q))
+fold_min : (xs : List ℕ) (x : ℕ) → Some (fold min x xs) ≡ lesser (Some x) (reduce min xs)
+fold_min [] x = refl
+fold_min (y ∷ ys) x = fold_min ys (min x y) ∙ lesser_assoc (Some x) (Some y) (reduce min ys) ∙ ap (lesser (Some x)) (sym (fold_min ys y))
+
+least_with : (o : Option ℕ) (xs : List ℕ) → reduce min (cons_option o xs) ≡ lesser o (reduce min xs)
+least_with None xs = refl
+least_with (Some x) xs = fold_min xs x
+
+-- the least of the numbers that are there
+pub least_picked : {X Y : Type 0} (f : Y → Option ℕ) (h : X → Y) (xs : List X) → reduce min (filter_map (λ x. f (h x)) xs) ≡ least (map f (map h xs))
+least_picked f h [] = refl
+least_picked f h (x ∷ xs) = least_with (f (h x)) (filter_map (λ y. f (h y)) xs) ∙ ap (lesser (f (h x))) (least_picked f h xs)
 
 -- what a least number is: one of the list, and above none of it
 module _ {Y : Type 0} (f : Y → Option ℕ) (e : Y) where

@@ -16,12 +16,10 @@ pub fn position(order: &[u8], variable: u8) -> usize
     ensures value { result ≡ position_in order.now variable }
     ensures listed { (n : ℕ) → IsOrdering n order.now → 1 ≤ variable → variable ≤ n → (result < n) × (at order.now result ≡ variable) }
 {
-    for k in 0..order.len() {
-        if order[k] == variable {
-            return k;
-        }
-    }
-    order.len()
+    order
+        .iter()
+        .position(|listed| *listed == variable)
+        .unwrap_or(order.len())
 }
 
 // Whether two elements are of one family.
@@ -38,54 +36,15 @@ fn rise<E: Element>(u: &E, w: &E, order: &[u8], variable: u8) -> Option<u16>
     if !same_family(u, w) {
         return None;
     }
-    let here = position(order, variable);
-    match part_at(u, w, order) {
-        None => None,
-        Some(k) => {
-            if k != here {
-                return None;
-            }
-            let v = order[k];
-            let low = exponent_of(&u.exponents(), v);
-            let high = exponent_of(&w.exponents(), v);
-            if low < high { Some(high - low) } else { None }
-        }
+    let k = part_at(u, w, order)?;
+    let v = order[k];
+    let low = exponent_of(&u.exponents(), v);
+    let high = exponent_of(&w.exponents(), v);
+    if k == position(order, variable) && low < high {
+        Some(high - low)
+    } else {
+        None
     }
-}
-
-// The smaller of two numbers that may be absent.
-fn smaller(a: Option<u16>, b: Option<u16>) -> Option<u16>
-    ensures { result ≡ lesser a b }
-{
-    match (a, b) {
-        (Some(x), Some(y)) => Some(x.min(y)),
-        (Some(x), None) => Some(x),
-        (None, _) => b,
-    }
-}
-
-// The gap of a variable at the row of a place: the smallest positive difference to a row that agrees in every greater variable.
-// None where the bar is followed by a star, and at a place without a row.
-pub fn gap<E: Element>(rows: &[E], order: &[u8], place: usize, variable: u8) -> Option<u16>
-    ensures value { result ≡ gap_of (map E.Element.shown rows.now) order.now place variable }
-    ensures smallest { place < length rows.now → IsGap (map E.Element.shown rows.now) order.now (at_place (map E.Element.shown rows.now) place) variable result }
-{
-    if place >= rows.len() {
-        return None;
-    }
-    let mut best = None;
-    for row in rows {
-        best = smaller(best, rise(&rows[place], row, order, variable));
-    }
-    best
-}
-
-// Whether no row is above the row of a place in a variable and agrees with it in every greater one: its bar is followed by a star.
-pub fn has_star<E: Element>(rows: &[E], order: &[u8], place: usize, variable: u8) -> bool
-    ensures row { place < length rows.now → Decides result (Star (map E.Element.shown rows.now) order.now (at_place (map E.Element.shown rows.now) place) variable) }
-    ensures no_row { length rows.now ≤ place → result ≡ true }
-{
-    gap(rows, order, place, variable).is_none()
 }
 
 // Whether u and w lie over the same bar of a variable.
@@ -121,48 +80,61 @@ fn over_lower_bar<E: Element>(u: &E, w: &E, order: &[u8], variable: u8) -> bool
     }
 }
 
-// Whether no row before a place lies over the same bar of a variable.
-fn opens_bar<E: Element>(rows: &[E], order: &[u8], place: usize, variable: u8) -> bool
-    requires { place < length rows.now }
-    ensures { result ≡ opens_bar (map E.Element.shown rows.now) order.now variable place place }
-{
-    for j in 0..place {
-        if over_same_bar(&rows[j], &rows[place], order, variable) {
-            return false;
-        }
-    }
-    true
+// Rows of any kind under an ordering of their variables.
+#[derive(Clone, Copy)]
+pub struct Ranked<'a, E> {
+    pub rows: &'a [E],
+    pub order: &'a [u8],
 }
 
-// Whether the row of a place is the first over its bar of a variable, and that bar is lower than the one under another row.
-fn opens_lower_bar<E: Element>(
-    rows: &[E],
-    order: &[u8],
-    place: usize,
-    other: usize,
-    variable: u8,
-) -> bool
-    requires { (place < length rows.now) × (other < length rows.now) }
-    ensures { result ≡ (opens_bar (map E.Element.shown rows.now) order.now variable place place && lower_bar order.now variable (at_place (map E.Element.shown rows.now) place) (at_place (map E.Element.shown rows.now) other)) }
-{
-    opens_bar(rows, order, place, variable)
-        && over_lower_bar(&rows[place], &rows[other], order, variable)
-}
+impl<E: Element> Ranked<'_, E> {
+    // The gap of a variable at the row of a place: the smallest positive difference to a row that agrees in every greater variable.
+    // None where the bar is followed by a star, and at a place without a row.
+    pub fn gap(&self, place: usize, variable: u8) -> Option<u16>
+        ensures value { result ≡ gap_of (map E.Element.shown self.now.rows.now) self.now.order.now place variable }
+        ensures smallest { place < length self.now.rows.now → IsGap (map E.Element.shown self.now.rows.now) self.now.order.now (at_place (map E.Element.shown self.now.rows.now) place) variable result }
+    {
+        let (u, order) = (self.rows.get(place)?, self.order);
+        self.rows
+            .iter()
+            .filter_map(|w| rise(u, w, order, variable))
+            .min()
+    }
 
-// The number of the bar of a variable under the row of a place: 1 and one for each different lower bar. 0 at a place without a row.
-pub fn bar_number<E: Element>(rows: &[E], order: &[u8], place: usize, variable: u8) -> usize
-    ensures row { place < length rows.now → result ≡ bar_number (map E.Element.shown rows.now) order.now (at_place (map E.Element.shown rows.now) place) variable }
-    ensures no_row { length rows.now ≤ place → result ≡ 0 }
-    ensures counts { BarNumberCountsTheDifferentLowerBars }
-{
-    if place >= rows.len() {
-        return 0;
+    // Whether no row is above the row of a place in a variable and agrees with it in every greater one: its bar is followed by a star.
+    pub fn has_star(&self, place: usize, variable: u8) -> bool
+        ensures row { place < length self.now.rows.now → Decides result (Star (map E.Element.shown self.now.rows.now) self.now.order.now (at_place (map E.Element.shown self.now.rows.now) place) variable) }
+        ensures no_row { length self.now.rows.now ≤ place → result ≡ true }
+    {
+        self.gap(place, variable).is_none()
     }
-    let mut lower = 0;
-    for q in 0..rows.len() {
-        if opens_lower_bar(rows, order, q, place, variable) {
-            lower += 1;
+
+    // Whether no row before a place lies over the same bar of a variable.
+    fn opens_bar(&self, place: usize, variable: u8) -> bool
+        requires { place < length self.now.rows.now }
+        ensures { result ≡ opens_bar (map E.Element.shown self.now.rows.now) self.now.order.now variable place place }
+    {
+        let (row, order) = (&self.rows[place], self.order);
+        !self.rows[..place]
+            .iter()
+            .any(|before| over_same_bar(before, row, order, variable))
+    }
+
+    // The number of the bar of a variable under the row of a place: 1 and one for each different lower bar. 0 at a place without a row.
+    pub fn bar_number(&self, place: usize, variable: u8) -> usize
+        ensures row { place < length self.now.rows.now → result ≡ bar_number (map E.Element.shown self.now.rows.now) self.now.order.now (at_place (map E.Element.shown self.now.rows.now) place) variable }
+        ensures no_row { length self.now.rows.now ≤ place → result ≡ 0 }
+        ensures counts { BarNumberCountsTheDifferentLowerBars }
+    {
+        let Some(row) = self.rows.get(place) else {
+            return 0;
+        };
+        let mut lower = 0;
+        for (q, other) in self.rows.iter().enumerate() {
+            if self.opens_bar(q, variable) && over_lower_bar(other, row, self.order, variable) {
+                lower += 1;
+            }
         }
+        lower + 1
     }
-    lower + 1
 }

@@ -9,7 +9,7 @@ ghost use Rattle.divisions.specs.Janet.{janet, janet_like, IsNumbered, JanetIsTo
 ghost use Rattle.divisions.specs.Kept.{janet_lawful, janet_like_lawful};
 ghost use Rattle.divisions.specs.declared.OneOf.TheVariants.{First, Second};
 
-use barcode::gap;
+use barcode::Ranked;
 use elements::Element;
 
 // A division gives, for the rows of a sheet, an ordering, the place of a row and a variable, the limit there or none.
@@ -17,8 +17,8 @@ pub trait Division: Copy + Clone {
     // That function.
     ghost meaning: { Self → Meaning };
 
-    fn limit<E: Element>(&self, rows: &[E], order: &[u8], place: usize, variable: u8) -> Option<u16>
-        ensures { result ≡ meaning self.now (map E.Element.shown rows.now) order.now place variable };
+    fn limit<E: Element>(&self, ranked: &Ranked<E>, place: usize, variable: u8) -> Option<u16>
+        ensures { result ≡ meaning self.now (map E.Element.shown ranked.now.rows.now) ranked.now.order.now place variable };
 
     // On the rows of a sheet and orderings of its variables, limits are from 1 to 4,096, rows are separated,
     // and the limit of a variable depends only on the ordering down to it.
@@ -34,17 +34,8 @@ impl Division for Janet {
 
     ghost lawful = { λ d. janet_lawful };
 
-    fn limit<E: Element>(
-        &self,
-        rows: &[E],
-        order: &[u8],
-        place: usize,
-        variable: u8,
-    ) -> Option<u16> {
-        match gap(rows, order, place, variable) {
-            Some(_) => Some(1),
-            None => None,
-        }
+    fn limit<E: Element>(&self, ranked: &Ranked<E>, place: usize, variable: u8) -> Option<u16> {
+        ranked.gap(place, variable).map(|_| 1)
     }
 }
 
@@ -57,14 +48,8 @@ impl Division for JanetLike {
 
     ghost lawful = { λ d. janet_like_lawful };
 
-    fn limit<E: Element>(
-        &self,
-        rows: &[E],
-        order: &[u8],
-        place: usize,
-        variable: u8,
-    ) -> Option<u16> {
-        gap(rows, order, place, variable)
+    fn limit<E: Element>(&self, ranked: &Ranked<E>, place: usize, variable: u8) -> Option<u16> {
+        ranked.gap(place, variable)
     }
 }
 
@@ -80,16 +65,10 @@ impl<A: Division, B: Division> Division for OneOf<A, B> {
 
     ghost lawful = { elim [ First a ↦ A.Division.lawful a | Second b ↦ B.Division.lawful b ] };
 
-    fn limit<E: Element>(
-        &self,
-        rows: &[E],
-        order: &[u8],
-        place: usize,
-        variable: u8,
-    ) -> Option<u16> {
+    fn limit<E: Element>(&self, ranked: &Ranked<E>, place: usize, variable: u8) -> Option<u16> {
         match self {
-            OneOf::First(a) => a.limit(rows, order, place, variable),
-            OneOf::Second(b) => b.limit(rows, order, place, variable),
+            OneOf::First(a) => a.limit(ranked, place, variable),
+            OneOf::Second(b) => b.limit(ranked, place, variable),
         }
     }
 }
