@@ -1,13 +1,15 @@
 -- Limits as the code reads them. Assumes nothing.
-use Rattle.std.proofs.Common.{◌≡◌, ℕ, zero, suc, ◌-◌, ◌<◌, ◌≤◌, Bool, true, false, List, map, length, get_or, Some, None, Decides, Option, sym, refl, ap, ◌∙◌, inl, inr, arith}
-use Rattle.std.proofs.lemmas.List.{get_or_past, get_or-map, length-map}
-use Rattle.std.proofs.lemmas.Bool.{cases_lt, false≢true}
-use Rattle.std.proofs.lemmas.Bool.Decides.{not_from_Decides}
-use Rattle.elements.specs.Element.{Shown, entry, exponent, Divides, times, quotient, Variable, blank}
+use Rattle.std.proofs.Common.{◌≡◌, ℕ, zero, suc, ◌+◌, ◌<◌, ◌≤◌, Bool, true, false, ◌&&◌, ltb, List, [], ◌∷◌, take, map, length, get_or, Some, None, MatchOption, Decides, Option, sym, refl, ap, ◌∙◌, inl, inr, arith}
+use Rattle.std.specs.List.{list_all, zip, enumerate_from, AllWithin, HoldsAt}
+use Rattle.std.proofs.lemmas.List.FromFn.{length-enumerate_from, get_or-enumerate_from}
+use Rattle.std.specs.Option.{option_map_or}
+use Rattle.std.proofs.lemmas.List.{get_or_past, get_or_default, get_or-map, length-map}
+use Rattle.std.proofs.lemmas.Bool.{cases_lt, ltb-true, lt-ltb}
+use Rattle.std.proofs.lemmas.Bool.Decides.{not_from_Decides, Decides-and, Decides-like}
+use Rattle.elements.specs.Element.{Shown, exponent, Divides, times, quotient, Variable, blank}
 use Rattle.orderings.specs.Rows.{row}
-use Rattle.cones.specs.Cones.{Holds, InCone, Shortfall, Small}
+use Rattle.cones.specs.Cones.{Within, Holds, InCone, Shortfall, Small}
 use Rattle.cones.specs.Tables.{limit_in, limits_at, limits_of}
-use Rattle.cones.proofs.Products.{quotient_at}
 
 -- there is no variable 0
 pub limit_none : (xs : List (Option ℕ)) (v : ℕ) → v < 1 → limit_in xs v ≡ None
@@ -26,21 +28,40 @@ limit_high xs v m e = elim (cases_lt (length xs) v) [
   | inr l ↦ l
 ]
 
--- the tests of the code, over what a row and an element show
-module _ (u w : Shown) (a b : List ℕ) (ea : a ≡ u.exponents) (eb : b ≡ w.exponents) (n : ℕ) (xs : List (Option ℕ)) (eight : length xs ≡ 8) where
-  difference : (v m : ℕ) → 1 ≤ v → limit_in xs v ≡ Some m → entry (quotient u w) v ≡ entry b v - entry a v
-  difference v m low e =
-      rw (ea, eb) (quotient_at u w v (record { low = low; high = omega (arith, limit_high xs v m e) }))
+-- whether an exponent is below a limit, or there is none
+below_limit : (d : ℕ) (o : Option ℕ) → Decides (option_map_or (ltb d) o true) ((m : ℕ) → o ≡ Some m → d < m)
+below_limit d None = (λ _ m e. absurd (let z : ◌≡◌ {A = ℕ} 0 1 = cc in omega arith), λ _. refl)
+below_limit d (Some x) = (λ t m e. let same : x ≡ m = cc in omega (arith, ltb-true d x t), λ h. lt-ltb d x (h x refl))
 
-  -- no difference reaches its limit
-  pub holds_from : Divides u w → ((v : ℕ) → v ≤ n → (m : ℕ) → 1 ≤ v → limit_in xs v ≡ Some m → entry b v - entry a v < m) → Holds n (limit_in xs) u w
-  holds_from d h = (d, λ v m low high e. rw (difference v m low e) (h v high m low e))
+-- the first n exponents, each beside its limit
+pairs_below : (n : ℕ) (t : List ℕ) (xs : List (Option ℕ)) → length t ≡ length xs →
+    Decides (list_all (λ p. option_map_or (ltb p.0) p.1 true) (take n (zip t xs))) ((k m : ℕ) → k < n → get_or xs k None ≡ Some m → get_or t k 0 < m)
+pairs_below zero t xs same = (λ _ k m l e. absurd (omega arith), λ _. refl)
+pairs_below (suc n) [] [] same = (λ _ k m l e. absurd (let z : ◌≡◌ {A = ℕ} 0 1 = cc in omega arith), λ _. refl)
+pairs_below (suc n) [] (x ∷ xs) same = absurd (omega arith)
+pairs_below (suc n) (d ∷ ds) [] same = absurd (omega arith)
+pairs_below (suc n) (d ∷ ds) (x ∷ xs) same =
+    Decides-like (option_map_or (ltb d) x true && list_all (λ p. option_map_or (ltb p.0) p.1 true) (take n (zip ds xs))) each
+    (λ h. (λ m e. h 0 m (omega arith) e, λ k m l e. h (suc k) m (omega arith) e))
+    (Decides-and _ _ (below_limit d x) (pairs_below n ds xs (omega arith)))
+  where
+    each : ((m : ℕ) → x ≡ Some m → d < m) × ((k m : ℕ) → k < n → get_or xs k None ≡ Some m → get_or ds k 0 < m) →
+        (k m : ℕ) → k < suc n → get_or (x ∷ xs) k None ≡ Some m → get_or (d ∷ ds) k 0 < m
+    each h zero m l e = h.0 m e
+    each h (suc k) m l e = h.1 k m (omega arith) e
 
-  -- one does
-  pub not_held : (v m : ℕ) (o : Option ℕ) → 1 ≤ v → v ≤ n → o ≡ limit_in xs v → o ≡ Some m → m ≤ entry b v - entry a v → Decides false (Holds n (limit_in xs) u w)
-  not_held v m o low high read found l =
-      let e : limit_in xs v ≡ Some m = sym read ∙ found in
-      (λ f. absurd (false≢true f), λ h. absurd (omega (arith, h.1 v m low high e, difference v m low e)))
+-- the quotient of a row that divides the element is a multiplier exactly where the first n exponents are below their limits
+pub held : (n : ℕ) (xs : List (Option ℕ)) (u w : Shown) (t : List ℕ) (r : Bool) → length xs ≡ 8 → length t ≡ 8 → Divides u w → t ≡ quotient u w →
+    r ≡ list_all (λ p. option_map_or (ltb p.0) p.1 true) (take n (zip t xs)) → Decides r (Holds n (limit_in xs) u w)
+held n xs u w t r eight long d is told =
+    let decided = pairs_below n t xs (long ∙ sym eight) in (
+      λ e. (d, rw (← is) (within (decided.0 (sym told ∙ e)))),
+      λ h. told ∙ decided.1 (λ k m l e. rw (← is) at (h.1 (suc k) m (omega arith) (omega arith) e)),
+    )
+  where
+    within : ((k m : ℕ) → k < n → get_or xs k None ≡ Some m → get_or t k 0 < m) → Within n (limit_in xs) t
+    within h zero m low high e = absurd (omega arith)
+    within h (suc k) m low high e = h k m (omega arith) e
 
 -- what the code reads at a place: an element and its limits
 module _ {E : Type 0} (shown : E → Shown) (n : ℕ) (rows : List E) (table : List (List (Option ℕ))) (p : ℕ) (x : E) (xs : List (Option ℕ))
@@ -82,6 +103,34 @@ module _ {E : Type 0} (shown : E → Shown) (n : ℕ) (rows : List E) (table : L
     no_shortfall e k short =
         let same : k ≡ m = cc (short.limit, limited) in
         not_from_Decides r decided e (rw same at short.outside)
+
+-- what the code finds among the rows, each with its place: the first whose cone holds an element
+module _ {E : Type 0} (shown : E → Shown) (n : ℕ) (rows : List E) (table : List (List (Option ℕ))) (e : E) (w : Shown) where
+  abbrev pub Holding : ℕ × E → Type 0
+  Holding p = Holds n (limit_in (limits_at table p.0)) (shown p.1) w
+
+  read : (k : ℕ) → k < length rows → get_or rows k e ≡ get_or rows k (get_or rows k e)
+  read k l = get_or_default rows k e (get_or rows k e) l
+
+  listed : (k : ℕ) → k < length rows → get_or (enumerate_from 0 rows) k (0, e) ≡ (k, get_or rows k e)
+  listed k l = let same : 0 + k ≡ k = omega arith in rw same at (get_or-enumerate_from 0 rows k (0, e) l)
+
+  outside : (i : ℕ) → i ≤ length rows → AllWithin (λ p. Holding p → ⊥) (enumerate_from 0 rows) 0 i → (s : ℕ) → s < i → InCone n (map shown rows) (limits_of table) s w → ⊥
+  outside i small none s l cone =
+      let here = rw (listed s (omega arith)) at (none s (0, e) (omega arith) l) in
+      here (in_cone_to shown n rows table s (get_or rows s e) (limits_at table s) (omega arith) (read s (omega arith)) refl w cone)
+
+  pub cone_found : (r : Option ℕ) → MatchOption r (AllWithin (λ p. Holding p → ⊥) (enumerate_from 0 rows) 0 (length (enumerate_from 0 rows)))
+      (λ i. (i < length (enumerate_from 0 rows)) × HoldsAt Holding (enumerate_from 0 rows) i × AllWithin (λ p. Holding p → ⊥) (enumerate_from 0 rows) 0 i) →
+      MatchOption r ((s : ℕ) → InCone n (map shown rows) (limits_of table) s w → ⊥)
+      (λ s. InCone n (map shown rows) (limits_of table) s w × ((q : ℕ) → q < s → InCone n (map shown rows) (limits_of table) q w → ⊥))
+  cone_found None none =
+      λ s cone. outside (length rows) (omega arith) (rw (length-enumerate_from 0 rows) at none) s (omega (arith, cone.place, length-map rows shown)) cone
+  cone_found (Some i) (l, h, before) =
+      let small : i < length rows = omega (arith, length-enumerate_from 0 rows) in (
+        in_cone_from shown n rows table i (get_or rows i e) (limits_at table i) small (read i small) refl w (rw (listed i small) at (h (0, e))),
+        outside i (omega arith) before,
+      )
 
 -- a variable without a limit has no shortfall
 pub unlimited : (n : ℕ) (rows : List Shown) (table : List (List (Option ℕ))) (p v : ℕ) (xs : List (Option ℕ)) (o : Option ℕ) →

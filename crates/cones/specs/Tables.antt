@@ -1,5 +1,5 @@
 -- How a table of limits is read: a list for each row, with an entry for each of eight variables. Assumes nothing.
-use Rattle.std.specs.Prelude.{ℕ, List, ◌∷◌, replicate, None, Option, slice_index_or}
+use Rattle.std.specs.Prelude.{◌≡◌, ℕ, ◌<◌, ◌≤◌, List, ◌∷◌, replicate, None, Option, slice_index_or}
 use Rattle.cones.specs.Cones.{Limits}
 
 -- the limit of variable v, which counts from 1, in a row's list; none where there is no such variable
@@ -13,3 +13,8 @@ limits_at table p = slice_index_or table p (replicate 8 None)
 -- the limits that a table sets
 abbrev pub limits_of : List (List (Option ℕ)) → Limits
 limits_of table p v = limit_in (limits_at table p) v
+
+-- a row's limits are those that f gives variables 1 to n, of which there are eight at most; no other variable has one
+pub record LimitsFrom (n : ℕ) (f : ℕ → Option ℕ) (limits : List (Option ℕ)) : Type 0 where
+  pub own : (v : ℕ) → 1 ≤ v → v ≤ n → v ≤ 8 → limit_in limits v ≡ f v
+  pub others : (v : ℕ) → n < v → limit_in limits v ≡ None

@@ -4,45 +4,43 @@ ghost use Rattle.cones.specs.Cones.{Holds, InCone, ConesAreDisjoint, TheConeIsOf
 ghost use Rattle.cones.specs.Tables.{limit_in, limits_of};
 
 use crate::tables::*;
-use elements::{Element, divides, exponent_of};
+use elements::{Element, quotient};
 
-// Whether the element lies in the cone of a row with these limits of variables 1 to n.
-pub fn in_cone<E: Element>(row: &E, limits: &[Option<u16>; 8], n: u8, element: &E) -> bool
-    ensures { Decides result (Holds n (limit_in limits.now) (E.Element.shown row.now) (E.Element.shown element.now)) }
-{
-    if !divides(row, element) {
-        return false;
-    }
-    let small = row.exponents();
-    let large = element.exponents();
-    for v in 1..=n {
-        let least = exponent_of(&small, v);
-        let given = exponent_of(&large, v);
-        if let Some(limit) = limit_of(limits, v) {
-            if given - least >= limit {
-                return false;
-            }
-        }
-    }
-    true
+// Rows in n variables, with the limits of each.
+#[derive(Clone, Copy)]
+pub struct Limited<'a, E> {
+    pub rows: &'a [E],
+    pub limits: &'a [Limits],
+    pub n: u8,
 }
 
-// The first place whose cone holds the element. Where limits separate the rows there is no other such place,
-// and its row is the greatest that divides the element.
-pub fn cone_of<E: Element>(
-    rows: &[E],
-    limits: &[[Option<u16>; 8]],
-    n: u8,
-    element: &E,
-) -> Option<usize>
-    ensures first { MatchOption result ((s : ℕ) → InCone n (map E.Element.shown rows.now) (limits_of limits.now) s (E.Element.shown element.now) → ⊥) (λ s. InCone n (map E.Element.shown rows.now) (limits_of limits.now) s (E.Element.shown element.now) × ((q : ℕ) → q < s → InCone n (map E.Element.shown rows.now) (limits_of limits.now) q (E.Element.shown element.now) → ⊥)) }
-    ensures alone { ConesAreDisjoint }
-    ensures greatest { TheConeIsOfTheGreatestDivisor }
+// Whether the element lies in the cone of a row with these limits of variables 1 to n: the quotient is below each of them.
+pub fn in_cone<E: Element>(row: &E, limits: &Limits, n: u8, element: &E) -> bool
+    ensures { Decides result (Holds n (limit_in limits.now) (E.Element.shown row.now) (E.Element.shown element.now)) }
 {
-    for p in 0..rows.len() {
-        if in_cone(&rows[p], &limits_at(limits, p), n, element) {
-            return Some(p);
-        }
+    let Some(term) = quotient(row, element) else {
+        return false;
+    };
+    term.iter()
+        .zip(limits.iter())
+        .take(n as usize)
+        .all(|(degree, limit)| limit.is_none_or(|most| *degree < most))
+}
+
+impl<E: Element> Limited<'_, E> {
+    // The first place whose cone holds the element. Where limits separate the rows there is no other such place,
+    // and its row is the greatest that divides the element.
+    pub fn cone_of(&self, element: &E) -> Option<usize>
+        ensures first { MatchOption result ((s : ℕ) → InCone self.now.n (map E.Element.shown self.now.rows.now) (limits_of self.now.limits.now) s (E.Element.shown element.now) → ⊥) (λ s. InCone self.now.n (map E.Element.shown self.now.rows.now) (limits_of self.now.limits.now) s (E.Element.shown element.now) × ((q : ℕ) → q < s → InCone self.now.n (map E.Element.shown self.now.rows.now) (limits_of self.now.limits.now) q (E.Element.shown element.now) → ⊥)) }
+        ensures alone { ConesAreDisjoint }
+        ensures greatest { TheConeIsOfTheGreatestDivisor }
+    {
+        let (limits, n) = (self.limits, self.n);
+        self.rows.iter().enumerate().position(|(place, row)| in_cone(
+            row,
+            &limits_at(limits, place),
+            n,
+            element,
+        ))
     }
-    None
 }

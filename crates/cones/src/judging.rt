@@ -1,66 +1,61 @@
 // Whether a division makes rows complete. The division is asked for each limit once; what judges is handed the limits.
-ghost use Rattle.std.specs.Prelude.{◌≡◌, ℕ, ◌<◌, ◌≤◌, map, length, MatchOption};
+ghost use Rattle.std.specs.Prelude.{ℕ, ◌<◌, map, MatchOption};
 ghost use Rattle.divisions.specs.Laws.{OnSheet};
 ghost use Rattle.cones.specs.Cones.{Complete, FirstShortfall};
 ghost use Rattle.cones.specs.Judged.{LawfulLimitsAreSeparated, JanetLikeCompletesWhatAnyDivisionCompletes};
-ghost use Rattle.cones.specs.Tables.{limit_in, limits_of};
+ghost use Rattle.cones.specs.Tables.{limits_at, LimitsFrom};
 
-use crate::shortfalls::*;
+use crate::holding::Limited;
+use crate::shortfalls::Short;
+use crate::tables::*;
+use barcode::Ranked;
 use divisions::Division;
 use elements::Element;
-
-// The most rows whose limits a table holds.
-pub const MOST_ROWS: usize = 64;
+use std::array;
 
 // The limits of variables 1 to n at the row of a place.
 fn limits_of_row<E: Element, D: Division>(
     division: &D,
-    rows: &[E],
-    order: &[u8],
+    ranked: &Ranked<E>,
     place: usize,
     n: u8,
-) -> [Option<u16>; 8]
-    ensures { (v : ℕ) → 1 ≤ v → v ≤ n → v ≤ 8 → limit_in result v ≡ D.Division.meaning division.now (map E.Element.shown rows.now) order.now place v }
+) -> Limits
+    ensures { LimitsFrom n (D.Division.meaning division.now (map E.Element.shown ranked.now.rows.now) ranked.now.order.now place) result }
 {
     let mut limits = [None; 8];
-    for v in 1..=8u8 {
-        if v <= n {
-            limits[v as usize - 1] = division.limit(rows, order, place, v);
-        }
+    for v in 1..=n.min(8) {
+        limits[v as usize - 1] = division.limit(ranked, place, v);
     }
     limits
 }
 
-// The limits that a division sets for variables 1 to n at each of at most 64 rows, each obtained once.
-pub fn limits_by<E: Element, D: Division>(
-    division: &D,
-    rows: &[E],
-    order: &[u8],
-    n: u8,
-) -> [[Option<u16>; 8]; 64]
-    ensures { (p v : ℕ) → p < length rows.now → p < 64 → 1 ≤ v → v ≤ n → v ≤ 8 → limits_of result p v ≡ D.Division.meaning division.now (map E.Element.shown rows.now) order.now p v }
+// The limits that a division sets for variables 1 to n at each of 64 places, each obtained once. Other variables have none.
+pub fn limits_by<E: Element, D: Division>(division: &D, ranked: &Ranked<E>, n: u8) -> [Limits; 64]
+    ensures { (p : ℕ) → p < 64 → LimitsFrom n (D.Division.meaning division.now (map E.Element.shown ranked.now.rows.now) ranked.now.order.now p) (limits_at result p) }
 {
-    let mut table = [[None; 8]; 64];
-    for place in 0..MOST_ROWS {
-        if place < rows.len() {
-            table[place] = limits_of_row(division, rows, order, place, n);
-        }
-    }
-    table
+    array::from_fn(
+        |place| -> Limits
+            ensures { LimitsFrom n (D.Division.meaning division.entry.now (map E.Element.shown ranked.entry.now.rows.now) ranked.entry.now.order.now place) result }
+        { limits_of_row(division, ranked, place, n) },
+    )
 }
 
 // The first shortfall of the rows of a sheet by a division under an ordering, or none where they are complete.
 // Rows that any lawful division completes under an ordering are completed under it by Janet-like division.
 pub fn shortfall_by<E: Element, D: Division>(
     division: &D,
-    rows: &[E],
-    order: &[u8],
+    ranked: &Ranked<E>,
     n: u8,
 ) -> Option<Short>
-    ensures judged { OnSheet n (map E.Element.shown rows.now) order.now → MatchOption result (Complete n (map E.Element.shown rows.now) (D.Division.meaning division.now (map E.Element.shown rows.now) order.now)) (λ s. FirstShortfall n (map E.Element.shown rows.now) (D.Division.meaning division.now (map E.Element.shown rows.now) order.now) s.place s.variable s.power × (Complete n (map E.Element.shown rows.now) (D.Division.meaning division.now (map E.Element.shown rows.now) order.now) → ⊥)) }
+    ensures judged { OnSheet n (map E.Element.shown ranked.now.rows.now) ranked.now.order.now → MatchOption result (Complete n (map E.Element.shown ranked.now.rows.now) (D.Division.meaning division.now (map E.Element.shown ranked.now.rows.now) ranked.now.order.now)) (λ s. FirstShortfall n (map E.Element.shown ranked.now.rows.now) (D.Division.meaning division.now (map E.Element.shown ranked.now.rows.now) ranked.now.order.now) s.place s.variable s.power × (Complete n (map E.Element.shown ranked.now.rows.now) (D.Division.meaning division.now (map E.Element.shown ranked.now.rows.now) ranked.now.order.now) → ⊥)) }
     ensures separated { LawfulLimitsAreSeparated }
     ensures wider { JanetLikeCompletesWhatAnyDivisionCompletes }
 {
-    let table = limits_by(division, rows, order, n);
-    first_shortfall(rows, &table, n)
+    let limits = limits_by(division, ranked, n);
+    let limited = Limited {
+        rows: ranked.rows,
+        limits: &limits,
+        n,
+    };
+    limited.first_shortfall()
 }

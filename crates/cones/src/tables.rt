@@ -2,23 +2,20 @@
 ghost use Rattle.std.specs.Prelude.{◌≡◌};
 ghost use Rattle.cones.specs.Tables.{limit_in, limits_at};
 
+// The limits of a row, one for each of eight variables.
+pub type Limits = [Option<u16>; 8];
+
 // The limit of a variable: none where there is no such variable.
-pub fn limit_of(limits: &[Option<u16>; 8], variable: u8) -> Option<u16>
+pub fn limit_of(limits: &Limits, variable: u8) -> Option<u16>
     ensures { result ≡ limit_in limits.now variable }
 {
-    if variable < 1 || variable > 8 {
-        return None;
-    }
-    limits[variable as usize - 1]
+    let index = (variable as usize).checked_sub(1)?;
+    *limits.get(index)?
 }
 
 // The limits of the row at a place: none past the end of the table.
-pub fn limits_at(table: &[[Option<u16>; 8]], place: usize) -> [Option<u16>; 8]
+pub fn limits_at(table: &[Limits], place: usize) -> Limits
     ensures { result ≡ limits_at table.now place }
 {
-    if place < table.len() {
-        table[place]
-    } else {
-        [None; 8]
-    }
+    table.get(place).copied().unwrap_or([None; 8])
 }

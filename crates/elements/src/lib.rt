@@ -121,7 +121,7 @@ pub fn divides<E: Element>(divisor: &E, multiple: &E) -> bool
 
 // The multiple over the divisor: the term of the differences, or none where the divisor does not divide it.
 pub fn quotient<E: Element>(divisor: &E, multiple: &E) -> Option<[u16; 8]>
-    ensures value { MatchOption result (Divides (E.Element.shown divisor.now) (E.Element.shown multiple.now) → ⊥) (λ t. t ≡ divided (E.Element.shown divisor.now) (E.Element.shown multiple.now)) }
+    ensures value { MatchOption result (Divides (E.Element.shown divisor.now) (E.Element.shown multiple.now) → ⊥) (λ t. Divides (E.Element.shown divisor.now) (E.Element.shown multiple.now) × (t ≡ divided (E.Element.shown divisor.now) (E.Element.shown multiple.now))) }
     ensures back { IfSome result (λ t. multiplied (E.Element.shown divisor.now) t ≡ E.Element.shown multiple.now) }
 {
     if !divides(divisor, multiple) {

@@ -12,6 +12,6 @@ returns g c =
     let d = c.if-not-divides.ensures.0 refl in
     let m : length c.exponents-term.result ≡ 8 = omega arith in
     record {
-      value = quotient_written _ _ _ _ c.exponents-small.ensures c.exponents-term.ensures _ c.loop-i.invariant.0 (λ k l. c.loop-i.invariant.1 k (omega arith));
+      value = (d, quotient_written _ _ _ _ c.exponents-small.ensures c.exponents-term.ensures _ c.loop-i.invariant.0 (λ k l. c.loop-i.invariant.1 k (omega arith)));
       back = quotient_back _ _ _ _ c.exponents-small.ensures c.exponents-term.ensures _ c.loop-i.invariant.0 m d (λ k l. c.loop-i.invariant.1 k (omega arith));
     }

@@ -8,11 +8,11 @@ use Rattle.cones.proofs.judging.shortfall_by.Goals as goal
 pub returns : goal.returns
 returns g c = record {
   judged = λ on.
-      let rows = map g.E.Element.shown c.args.rows.now in
-      let k = length-map c.args.rows.now g.E.Element.shown in
-      judged_by (g.D.Division.meaning c.args.division.now) (g.met.D.Division.lawful c.args.division.now) c.args.n rows c.args.order.now on
-      (limits_of c.limits_by-table.result)
-      (λ p v l low high. c.limits_by-table.ensures p v (omega arith) (omega (arith, on.few)) low high (omega (arith, on.variables.most)))
+      let rows = map g.E.Element.shown c.args.ranked.now.rows.now in
+      let k = length-map c.args.ranked.now.rows.now g.E.Element.shown in
+      judged_by (g.D.Division.meaning c.args.division.now) (g.met.D.Division.lawful c.args.division.now) c.args.n rows c.args.ranked.now.order.now on
+      (limits_of c.limits_by-limits.result)
+      (λ p v l low high. (c.limits_by-limits.ensures p (omega (arith, on.few))).own v low high (omega (arith, on.variables.most)))
       c.first_shortfall.result c.first_shortfall.ensures.first;
   separated = lawful_limits_are_separated;
   wider = janet_like_completes_what_any_division_completes;
