@@ -5,7 +5,8 @@ ghost use Rattle.search.specs.Liveness.{RowsOfSheet};
 ghost use Rattle.search.specs.Columns.{Written, Tabled, Extended};
 
 use crate::prefixes::*;
-use cones::shortfalls::first_shortfall;
+use barcode::Ranked;
+use cones::holding::Limited;
 use divisions::Division;
 use elements::Element;
 
@@ -22,8 +23,9 @@ fn fill_column<E: Element, D: Division>(
     requires high { x ≤ 8 }
     ensures { Written (λ q. D.Division.meaning division.now (map E.Element.shown rows.now) order.now q x) x (length rows.now) table.old table.new }
 {
+    let ranked = Ranked { rows, order };
     for q in 0..rows.len() {
-        table[q][x as usize - 1] = division.limit(rows, order, q, x);
+        table[q][x as usize - 1] = division.limit(&ranked, q, x);
     }
 }
 
@@ -55,5 +57,10 @@ pub(crate) fn extend<E: Element, D: Division>(
 {
     let order = completed(prefix, len + 1, n);
     fill_column(table, division, rows, &order, prefix[len]);
-    first_shortfall(rows, &table[..], n).is_none()
+    let limited = Limited {
+        rows,
+        limits: &table[..],
+        n,
+    };
+    limited.first_shortfall().is_none()
 }
