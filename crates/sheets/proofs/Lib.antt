@@ -5,3 +5,4 @@ pub mod Steps
 pub mod Whole
 pub mod Verdicts
 pub mod Settled
+pub mod Found

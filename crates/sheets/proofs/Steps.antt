@@ -1,10 +1,10 @@
 -- The calls of an open sheet as steps of the book. Assumes nothing.
-use Rattle.std.proofs.Common.{◌≡◌, ℕ, suc, ◌+◌, ◌-◌, ◌<◌, Bool, true, false, cond, List, [], ◌∷◌, ◌++◌, map, length, take, drop, set, vec_items, vec_len, Decides, sym, refl, ap, ◌∙◌, subst, arith}
+use Rattle.std.proofs.Common.{◌≡◌, ℕ, suc, ◌+◌, ◌-◌, ◌<◌, Bool, true, false, cond, List, [], ◌∷◌, ◌++◌, map, length, take, drop, set, vec_items, vec_len, Decides, sym, refl, ap, ◌∙◌, subst, inl, inr, arith}
 use Rattle.std.specs.List.{ContainsAt as Has, remove}
 use Rattle.std.proofs.lemmas.List.{length-map, length-set, length-take-le, get_or-take, map-set, map-append, take-map, drop-map}
 use Rattle.std.proofs.lemmas.Bool.{false≢true}
 use Rattle.elements.specs.Element.{Shown, blank}
-use Rattle.orderings.specs.Answer.{Answer, granted, refused}
+use Rattle.orderings.specs.Answer.{Answer, granted, refused, Check, Answers}
 use Rattle.orderings.specs.Fit.{Fit}
 use Rattle.orderings.specs.Order.{VariableCount}
 use Rattle.orderings.specs.Rows.{row}
@@ -142,6 +142,12 @@ module _ {E : Type 0} (admits : ℕ → Bool) (shown : E → Shown) (p q : Parts
         bound_path admits opened n len (rw (count, same) (rows_without table place inside p.header.rows within st.room)) order,
       )
       refl
+
+-- what is granted has passed every check
+pub holds_of : (cs : List Check) (G : Answer → Type 0) (vs : List ℕ) → Answers cs G (granted vs) → Hold cs
+holds_of [] G vs a = tt
+holds_of (c ∷ cs) G vs (inl x) = let z : ◌≡◌ {A = ℕ} 0 1 = cc in absurd (omega arith)
+holds_of (c ∷ cs) G vs (inr x) = (x.0, holds_of cs G vs x.1)
 
 -- no rows, every place blank, the ordering 1 to n
 pub opened_by : {E : Type 0} (admits : ℕ → Bool) (shown : E → Shown) (q : Parts E) (n places : ℕ) → VariableCount n → PlaceCount places →

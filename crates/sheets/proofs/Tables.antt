@@ -1,35 +1,25 @@
 -- Tables of elements, by what they show. Assumes nothing.
-use Rattle.std.proofs.Common.{◌≡◌, ℕ, ◌+◌, ◌-◌, ◌<◌, ◌≤◌, List, map, length, get_or, take, drop, set, Some, None, Option, sym, ap, ◌∙◌, arith, MatchOption}
-use Rattle.std.proofs.lemmas.List.{map-set, get_or-set_same, get_or-set_other, get_or-drop, get_or-take, length-map, take-map, drop-map, take_rest}
+use Rattle.std.proofs.Common.{◌≡◌, ℕ, ◌+◌, ◌-◌, ◌<◌, ◌≤◌, List, map, length, take, drop, set, Some, None, Option, sym, ap, ◌∙◌, arith, MatchOption}
+use Rattle.std.proofs.lemmas.List.{map-set, get_or-set_same, get_or-set_other, get_or-drop, get_or-take, length-map, take-map, drop-map}
 use Rattle.std.specs.List.{ContainsAt as Has}
 use Rattle.elements.specs.Element.{Shown, blank}
 use Rattle.orderings.specs.Rows.{row}
-use Rattle.orderings.proofs.Places.{row_read}
-
-module _ {E : Type 0} (shown : E → Shown) (known : (x y : E) → shown x ≡ shown y → x ≡ y) where
-  -- different elements show different things
-  pub row_differs : (xs : List E) (i : ℕ) (x e : E) (s : Shown) → i < length xs → x ≡ get_or xs i x → s ≡ shown e → (x ≡ e → ⊥) → row (map shown xs) i ≡ s → ⊥
-  row_differs xs i x e s l is q differ eq = differ (known x e (sym (row_read shown xs i x l is) ∙ eq ∙ q))
 
 module _ {E : Type 0} (shown : E → Shown) where
   -- the rows, as the code cuts them off
-  pub front_part : (xs ys : List E) (count : ℕ) → ys ≡ xs → map shown (take (count - 0) ys) ≡ take count (map shown xs)
-  front_part xs ys count e = let z : count - 0 ≡ count = omega arith in rw (e, z) (sym (take-map shown count xs))
+  pub front_part : (xs ys : List E) (count : ℕ) → ys ≡ take count xs → map shown ys ≡ take count (map shown xs)
+  front_part xs ys count e = rw e (sym (take-map shown count xs))
 
   -- the places after the rows, as the code cuts them off
-  back_part : (xs ys : List E) (count places p : ℕ) → ys ≡ xs → places ≡ length xs → row (map shown (take (places - count) (drop count ys))) p ≡ row (map shown xs) (count + p)
-  back_part xs ys count places p e l =
-      rw (e, l, take_rest, ← drop-map) (get_or-drop count (map shown xs) p blank)
+  module _ (xs ys : List E) (count : ℕ) (e : ys ≡ drop count xs) where
+    back_part : (p : ℕ) → row (map shown ys) p ≡ row (map shown xs) (count + p)
+    back_part p = rw (e, ← drop-map) (get_or-drop count (map shown xs) p blank)
 
-  pub blanks_from : (xs ys : List E) (count places : ℕ) → ys ≡ xs → places ≡ length xs →
-      ((p : ℕ) → row (map shown (take (places - count) (drop count ys))) p ≡ blank) → (p : ℕ) → count ≤ p → row (map shown xs) p ≡ blank
-  blanks_from xs ys count places e l h p m =
-      let z : count + (p - count) ≡ p = omega arith in
-      rw z at (sym (back_part xs ys count places (p - count) e l) ∙ h (p - count))
+    pub blanks_from : ((p : ℕ) → row (map shown ys) p ≡ blank) → (p : ℕ) → count ≤ p → row (map shown xs) p ≡ blank
+    blanks_from h p m = let z : count + (p - count) ≡ p = omega arith in rw z at (sym (back_part (p - count)) ∙ h (p - count))
 
-  pub blanks_to : (xs ys : List E) (count places : ℕ) → ys ≡ xs → places ≡ length xs →
-      ((p : ℕ) → count ≤ p → row (map shown xs) p ≡ blank) → (p : ℕ) → row (map shown (take (places - count) (drop count ys))) p ≡ blank
-  blanks_to xs ys count places e l h p = back_part xs ys count places p e l ∙ h (count + p) (omega arith)
+    pub blanks_to : ((p : ℕ) → count ≤ p → row (map shown xs) p ≡ blank) → (p : ℕ) → row (map shown ys) p ≡ blank
+    blanks_to h p = back_part p ∙ h (count + p) (omega arith)
 
   -- the place that a search of the rows gives
   pub place_in : (xs rows : List E) (count : ℕ) (s : Shown) (r : Option ℕ) → map shown rows ≡ take count (map shown xs) → length rows ≡ count →

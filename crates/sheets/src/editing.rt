@@ -1,5 +1,5 @@
 // The calls that change an open sheet.
-ghost use Rattle.std.specs.Prelude.{◌≡◌, [], ◌∷◌, length, vec_len};
+ghost use Rattle.std.specs.Prelude.{[], ◌∷◌};
 ghost use Rattle.orderings.specs.Answer.{answer};
 ghost use Rattle.sheets.specs.Book.{opened, insert as to_insert, withdraw as to_withdraw, arrange as to_arrange};
 ghost use Rattle.sheets.specs.Read.{Performed};
@@ -11,28 +11,16 @@ use orderings::fitting::is_fit;
 use orderings::orders::is_ordering;
 use orderings::refusals::Refusal;
 
-// Writes the list over the order bytes.
-pub(crate) fn write_order(order: &mut Vec<u8>, list: &[u8])
-    requires { vec_len order.old ≡ length list.now }
-    ensures { order.new.items ≡ list.now }
-{
-    for k in 0..list.len() {
-        order[k] = list[k];
-    }
-}
-
 impl<E: Element> OpenSheet<E> {
     // Puts the element after the last row, and gives its place.
     pub fn insert(&mut self, element: E) -> Result<usize, Refusal>
         ensures { Performed E.Element.admitted E.Element.shown opened self.old.parts (to_insert (E.Element.shown element)) (answer (λ p. p ∷ []) result) self.new.parts }
     {
-        if !makes_sheet(&self.parts) {
-            return Err(Refusal::NotASheet);
-        }
+        let sheet = Standing::of(&self.parts)?;
         if !is_fit(&element, self.parts.header.variables) {
             return Err(Refusal::UnfitElement);
         }
-        if row_place(&self.parts, &element).is_some() {
+        if sheet.place_of(&element).is_some() {
             return Err(Refusal::AlreadyARow);
         }
         let count = self.parts.header.rows as usize;
@@ -48,13 +36,11 @@ impl<E: Element> OpenSheet<E> {
     pub fn withdraw(&mut self, element: &E) -> Result<(), Refusal>
         ensures { Performed E.Element.admitted E.Element.shown opened self.old.parts (to_withdraw (E.Element.shown element.now)) (answer (λ _. []) result) self.new.parts }
     {
-        if !makes_sheet(&self.parts) {
-            return Err(Refusal::NotASheet);
-        }
+        let sheet = Standing::of(&self.parts)?;
         if !is_fit(element, self.parts.header.variables) {
             return Err(Refusal::UnfitElement);
         }
-        let Some(place) = row_place(&self.parts, element) else {
+        let Some(place) = sheet.place_of(element) else {
             return Err(Refusal::NotARow);
         };
         // every place after the rows is blank, so a blank at the end is one after the last row
@@ -68,13 +54,11 @@ impl<E: Element> OpenSheet<E> {
     pub fn arrange(&mut self, list: &[u8]) -> Result<(), Refusal>
         ensures { Performed E.Element.admitted E.Element.shown opened self.old.parts (to_arrange list.now) (answer (λ _. []) result) self.new.parts }
     {
-        if !makes_sheet(&self.parts) {
-            return Err(Refusal::NotASheet);
-        }
+        let _ = Standing::of(&self.parts)?;
         if !is_ordering(list, self.parts.header.variables) {
             return Err(Refusal::NotAnOrdering);
         }
-        write_order(&mut self.parts.order, list);
+        self.parts.order.copy_from_slice(list);
         Ok(())
     }
 }

@@ -6,7 +6,7 @@ ghost use Rattle.sheets.specs.Read.{Performed, Moved, moved_answer, moved};
 
 use crate::judging::*;
 use crate::parts::*;
-use cones::holding::cone_of;
+use cones::holding::Limited;
 use cones::judging::limits_by;
 use divisions::Division;
 use elements::Element;
@@ -18,16 +18,18 @@ impl<E: Element, D: Division> SettledSheet<E, D> {
     pub fn locate(&self, element: &E) -> Result<usize, Refusal>
         ensures { Performed E.Element.admitted E.Element.shown (settled_by (D.Division.meaning self.now.division)) self.now.parts (to_locate (E.Element.shown element.now)) (answer (λ p. p ∷ []) result) self.now.parts }
     {
-        if !makes_sheet(&self.parts) {
-            return Err(Refusal::NotASheet);
-        }
+        let sheet = Standing::of(&self.parts)?;
         let n = self.parts.header.variables;
         if !is_admitted(element, n) {
             return Err(Refusal::UnfitElement);
         }
-        let rows = rows_of(&self.parts);
-        let limits = limits_by(&self.division, rows, &self.parts.order, n);
-        match cone_of(rows, &limits, n, element) {
+        let limits = limits_by(&self.division, &sheet.ranked(), n);
+        let limited = Limited {
+            rows: sheet.rows(),
+            limits: &limits,
+            n,
+        };
+        match limited.cone_of(element) {
             Some(place) => Ok(place),
             None => Err(Refusal::NoCone),
         }
@@ -38,13 +40,12 @@ impl<E: Element, D: Division> SettledSheet<E, D> {
         ensures step { Moved E.Element.admitted E.Element.shown (settled_by (D.Division.meaning self.division)) self.parts to_reopen (moved_answer (λ _. []) result) (moved (λ s. settled_by (D.Division.meaning s.division)) (λ _. opened) result) (moved (λ s. s.parts) (λ s. s.parts) result) }
         ensures back { IfErr result (λ d. d.back ≡ self) }
     {
-        if !makes_sheet(&self.parts) {
-            return Err(Denied {
-                back: self,
-                why: Refusal::NotASheet,
-            });
+        match Standing::of(&self.parts) {
+            Err(why) => Err(Denied { back: self, why }),
+            Ok(_) => {
+                let SettledSheet { parts, division: _ } = self;
+                Ok(OpenSheet { parts })
+            }
         }
-        let SettledSheet { parts, division: _ } = self;
-        Ok(OpenSheet { parts })
     }
 }

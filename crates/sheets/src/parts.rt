@@ -2,7 +2,7 @@
 use orderings::refusals::Refusal;
 
 // How many variables there are, and how many rows.
-#[derive(Clone, Copy)]
+#[derive(Clone, Copy, PartialEq, Eq, Debug)]
 pub struct Header {
     pub variables: u8,
     pub rows: u8,
@@ -30,7 +30,7 @@ pub struct SettledSheet<E, D> {
 }
 
 // The ordering that was found to serve, and how many prefixes were tested for it.
-#[derive(Clone, Copy)]
+#[derive(Clone, Copy, PartialEq, Eq, Debug)]
 pub struct Served {
     pub tested: u32,
     pub ordering: [u8; 8],
@@ -59,7 +59,7 @@ pub struct Bar {
 
 // Whether rows are complete. Where they are, the element is the row at place 0 and the numbers are 0;
 // else it is the row that falls short first, with its place, the variable and the power.
-#[derive(Clone, Copy)]
+#[derive(Clone, Copy, PartialEq, Eq, Debug)]
 pub struct Verdict<E> {
     pub complete: bool,
     pub element: E,

@@ -6,7 +6,6 @@ ghost use Rattle.sheets.specs.Read.{Performed, bar_told};
 
 use crate::judging::*;
 use crate::parts::*;
-use barcode::{bar_number, has_star};
 use divisions::Division;
 use elements::Element;
 use orderings::refusals::Refusal;
@@ -16,16 +15,15 @@ impl<E: Element> OpenSheet<E> {
     pub fn bar(&self, place: usize, variable: u8) -> Result<Bar, Refusal>
         ensures { Performed E.Element.admitted E.Element.shown opened self.now.parts (to_bar place variable) (answer bar_told result) self.now.parts }
     {
-        if !makes_sheet(&self.parts) {
-            return Err(Refusal::NotASheet);
-        }
-        if !has_bar(&self.parts, place, variable) {
+        let sheet = Standing::of(&self.parts)?;
+        if !sheet.has_bar(place, variable) {
             return Err(Refusal::NoSuchBar);
         }
-        let rows = rows_of(&self.parts);
-        let number = bar_number(rows, &self.parts.order, place, variable);
-        let star = has_star(rows, &self.parts.order, place, variable);
-        Ok(Bar { number, star })
+        let ranked = sheet.ranked();
+        Ok(Bar {
+            number: ranked.bar_number(place, variable),
+            star: ranked.has_star(place, variable),
+        })
     }
 
     // The limit that a division sets for a variable at the row of a place, or that it sets none.
@@ -37,13 +35,10 @@ impl<E: Element> OpenSheet<E> {
     ) -> Result<Option<u16>, Refusal>
         ensures { Performed E.Element.admitted E.Element.shown opened self.now.parts (to_limit (D.Division.meaning division.now) place variable) (answer limit_told result) self.now.parts }
     {
-        if !makes_sheet(&self.parts) {
-            return Err(Refusal::NotASheet);
-        }
-        if !has_bar(&self.parts, place, variable) {
+        let sheet = Standing::of(&self.parts)?;
+        if !sheet.has_bar(place, variable) {
             return Err(Refusal::NoSuchBar);
         }
-        let rows = rows_of(&self.parts);
-        Ok(division.limit(rows, &self.parts.order, place, variable))
+        Ok(division.limit(&sheet.ranked(), place, variable))
     }
 }

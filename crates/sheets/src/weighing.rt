@@ -3,10 +3,11 @@ ghost use Rattle.std.specs.Prelude.{◌≤◌, map, take};
 ghost use Rattle.orderings.specs.Answer.{answer, granted};
 ghost use Rattle.orderings.specs.Order.{IsOrdering};
 ghost use Rattle.sheets.specs.Book.{opened, TellsVerdict, verdict as to_verdict, weigh as to_weigh};
-ghost use Rattle.sheets.specs.Read.{Stands, Performed, verdict_told};
+ghost use Rattle.sheets.specs.Read.{Performed, verdict_told};
 
 use crate::judging::*;
 use crate::parts::*;
+use barcode::Ranked;
 use cones::judging::shortfall_by;
 use cones::shortfalls::Short;
 use divisions::Division;
@@ -14,39 +15,40 @@ use elements::Element;
 use orderings::orders::is_ordering;
 use orderings::refusals::Refusal;
 
-// The verdict on the rows of a sheet, by a division under an ordering.
-fn verdict_under<E: Element, D: Division>(
-    division: &D,
-    parts: &Parts<E>,
-    order: &[u8],
-) -> Verdict<E>
-    requires stands { Stands E.Element.admitted E.Element.shown parts.now }
-    requires ordered { IsOrdering parts.now.header.variables order.now }
-    requires some { 1 ≤ parts.now.header.rows }
-    ensures { TellsVerdict parts.now.header.variables (take parts.now.header.rows (map E.Element.shown parts.now.table.items)) (D.Division.meaning division.now (take parts.now.header.rows (map E.Element.shown parts.now.table.items)) order.now) (granted (verdict_told E.Element.shown result)) }
-{
-    let rows = rows_of(parts);
-    match shortfall_by(division, rows, order, parts.header.variables) {
-        None => Verdict {
-            complete: true,
-            element: rows[0],
-            place: 0,
-            variable: 0,
-            power: 0,
-        },
-        Some(
-            Short {
-                place,
-                variable,
-                power,
+impl<E: Element> Standing<'_, E> {
+    // The verdict on the rows, by a division under an ordering.
+    fn verdict_under<D: Division>(&self, division: &D, order: &[u8]) -> Verdict<E>
+        requires ordered { IsOrdering self.now.parts.now.header.variables order.now }
+        requires some { 1 ≤ self.now.parts.now.header.rows }
+        ensures { TellsVerdict self.now.parts.now.header.variables (take self.now.parts.now.header.rows (map E.Element.shown self.now.parts.now.table.items)) (D.Division.meaning division.now (take self.now.parts.now.header.rows (map E.Element.shown self.now.parts.now.table.items)) order.now) (granted (verdict_told E.Element.shown result)) }
+    {
+        let rows = self.rows();
+        match shortfall_by(
+            division,
+            &Ranked { rows, order },
+            self.parts.header.variables,
+        ) {
+            None => Verdict {
+                complete: true,
+                element: rows[0],
+                place: 0,
+                variable: 0,
+                power: 0,
             },
-        ) => {
-            Verdict {
-                complete: false,
-                element: rows[place],
-                place,
-                variable,
-                power,
+            Some(
+                Short {
+                    place,
+                    variable,
+                    power,
+                },
+            ) => {
+                Verdict {
+                    complete: false,
+                    element: rows[place],
+                    place,
+                    variable,
+                    power,
+                }
             }
         }
     }
@@ -57,28 +59,24 @@ impl<E: Element> OpenSheet<E> {
     pub fn verdict<D: Division>(&self, division: &D) -> Result<Verdict<E>, Refusal>
         ensures { Performed E.Element.admitted E.Element.shown opened self.now.parts (to_verdict (D.Division.meaning division.now)) (answer (verdict_told E.Element.shown) result) self.now.parts }
     {
-        if !makes_sheet(&self.parts) {
-            return Err(Refusal::NotASheet);
-        }
+        let sheet = Standing::of(&self.parts)?;
         if self.parts.header.rows < 1 {
             return Err(Refusal::NoRows);
         }
-        Ok(verdict_under(division, &self.parts, &self.parts.order))
+        Ok(sheet.verdict_under(division, &self.parts.order))
     }
 
     // Whether the rows are complete by a division under an ordering that is handed in.
     pub fn weigh<D: Division>(&self, division: &D, list: &[u8]) -> Result<Verdict<E>, Refusal>
         ensures { Performed E.Element.admitted E.Element.shown opened self.now.parts (to_weigh (D.Division.meaning division.now) list.now) (answer (verdict_told E.Element.shown) result) self.now.parts }
     {
-        if !makes_sheet(&self.parts) {
-            return Err(Refusal::NotASheet);
-        }
+        let sheet = Standing::of(&self.parts)?;
         if !is_ordering(list, self.parts.header.variables) {
             return Err(Refusal::NotAnOrdering);
         }
         if self.parts.header.rows == 0 {
             return Err(Refusal::NoRows);
         }
-        Ok(verdict_under(division, &self.parts, list))
+        Ok(sheet.verdict_under(division, list))
     }
 }

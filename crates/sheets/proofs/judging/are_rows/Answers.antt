@@ -1,28 +1,35 @@
-use Rattle.std.proofs.Common.{refl, arith, below_more}
+use Rattle.std.proofs.Common.{sym, refl, ◌∙◌, arith, below_more}
 use Rattle.std.proofs.lemmas.List.{length-map}
 use Rattle.std.proofs.lemmas.Bool.{false≢true}
 use Rattle.std.proofs.lemmas.Bool.Decides.{not_from_Decides}
 use Rattle.orderings.proofs.Places.{row_read}
+use Rattle.sheets.proofs.Found.{stands_before}
 use Rattle.sheets.proofs.judging.are_rows.Goals as goal
-use Rattle.sheets.proofs.judging.are_rows.Goals.{then-not-is_fit-via-then-not-is_fit, then-not-is_fit-via-else-not-is_fit+then-repeats}
+use Rattle.sheets.proofs.judging.are_rows.Goals.{then-not-is_fit-via-then-not-is_fit, then-not-is_fit-via-else-not-is_fit+then-contains}
 
 pub returns-then-not-is_fit : goal.returns-then-not-is_fit
 returns-then-not-is_fit g c =
-    let n = length-map c.args.rows.now g.E.Element.shown in (
+    let shown = g.E.Element.shown in
+    let rows = c.args.rows.now in
+    let n = length-map rows shown in
+    let read = row_read shown rows c.loop-p.p c.index-rows-p.result c.loop-p-test.true c.index-rows-p.is in (
       λ e. absurd (false≢true e),
-      λ rows. absurd (elim c.then-not-is_fit.branch [
-        | then-not-is_fit-via-then-not-is_fit w ↦ not_from_Decides _ c.is_fit.ensures w.if-not-is_fit.true
-            (rw (row_read g.E.Element.shown c.args.rows.now c.loop-p.p c.index-rows-p.result c.loop-p-test.true c.index-rows-p.is) at (rows.fit c.loop-p.p (omega (arith, c.loop-p-test.true, n))))
-        | then-not-is_fit-via-else-not-is_fit+then-repeats w ↦
-            (let (k, l, e) = w.repeats.ensures.0 w.if-repeats.true in rows.different k c.loop-p.p l (omega (arith, c.loop-p-test.true, n)) e)
+      λ all. absurd (elim c.then-not-is_fit.branch [
+        | then-not-is_fit-via-then-not-is_fit w ↦ not_from_Decides _ c.is_fit.ensures w.if-not-is_fit.true (rw read at (all.fit c.loop-p.p (omega (arith, c.loop-p-test.true, n))))
+        | then-not-is_fit-via-else-not-is_fit+then-contains w ↦
+            (let (k, l, e) = (stands_before shown g.E.PartialEq.eq g.met.E.Element.known g.met.E.Element.alike rows c.index-rows-p.result c.loop-p.p (omega (arith, c.loop-p-test.true)) _ w.contains.ensures.cases).0 w.if-contains.true in
+            all.different k c.loop-p.p l (omega (arith, c.loop-p-test.true, n)) (e ∙ sym read))
       ]),
     )
 
 pub loop-p-preserved : goal.loop-p-preserved
 loop-p-preserved g c =
+    let shown = g.E.Element.shown in
+    let rows = c.args.rows.now in
+    let read = row_read shown rows c.loop-p.p c.index-rows-p.result c.loop-p-test.true c.index-rows-p.is in
     below_more _ _ c.loop-p.invariant (
-      rw (row_read g.E.Element.shown c.args.rows.now c.loop-p.p c.index-rows-p.result c.loop-p-test.true c.index-rows-p.is) (c.if-not-is_fit.ensures.0 refl),
-      λ k l e. not_from_Decides _ c.repeats.ensures c.if-repeats.false (k, l, e),
+      rw read (c.if-not-is_fit.ensures.0 refl),
+      λ k l e. not_from_Decides _ (stands_before shown g.E.PartialEq.eq g.met.E.Element.known g.met.E.Element.alike rows c.index-rows-p.result c.loop-p.p (omega (arith, c.loop-p-test.true)) _ c.contains.ensures.cases) c.if-contains.false (k, l, e ∙ read),
     )
 
 pub returns : goal.returns

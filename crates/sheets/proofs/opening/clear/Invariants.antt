@@ -1,8 +1,8 @@
-use Rattle.std.proofs.Common.{◌≡◌, ℕ, ◌<◌, map, vec_items, vec_len}
+use Rattle.std.proofs.Common.{◌≡◌, ℕ, ◌<◌, map}
 use Rattle.elements.specs.Element.{blank}
 use Rattle.orderings.specs.Rows.{row}
 use Rattle.sheets.proofs.opening.clear.Given as goal
 
-abbrev pub invariant-loop-p : goal.invariant-loop-p
-invariant-loop-p g l =
-    (vec_len l.table ≡ vec_len l.initial.table) × ((k : ℕ) → k < l.p → row (map g.E.Element.shown (vec_items l.table)) k ≡ blank)
+-- the places so far are blank
+abbrev pub invariant-loop-place : goal.invariant-loop-place
+invariant-loop-place g l = (k : ℕ) → k < l.place-index → row (map g.E.Element.shown l.table) k ≡ blank

@@ -1,16 +1,25 @@
-use Rattle.std.proofs.Common.{sym, refl, ◌∙◌, inr, arith}
-use Rattle.orderings.specs.Order.{VariableCount}
-use Rattle.sheets.specs.Sheet.{PlaceCount}
-use Rattle.sheets.proofs.Steps.{opened_by}
+use Rattle.std.proofs.Common.{◌≡◌, [], map, length, vec_items, vec_len, sym, refl, ap, ◌∙◌}
+use Rattle.std.specs.Vec.{with_items}
+use Rattle.std.proofs.lemmas.List.{with_items_is}
+use Rattle.orderings.specs.Answer.{granted}
+use Rattle.orderings.specs.Rows.{row}
+use Rattle.orderings.proofs.Judging.{Hold}
+use Rattle.sheets.specs.Book.{open_asks}
+use Rattle.sheets.proofs.Natural.{natural_ordered}
+use Rattle.sheets.proofs.Steps.{opened_by, holds_of}
 use Rattle.sheets.proofs.opening.open.Goals as goal
 
-pub returns : goal.returns
-returns g c =
-    let count : VariableCount c.args.parts.header.variables = record { some = c.if-variables-lt1.false; most = c.if-variables-gt-MOST_VARIABLES.false } in
-    let room : PlaceCount c.args.parts.table.len =
-    record { some = omega (arith, c.len-places.ensures, c.if-places-lt1.false); most = omega (arith, c.len-places.ensures, c.if-places-gt-MOST_PLACES.false) } in
+pub returns-in-Ok : goal.returns-in-Ok
+returns-in-Ok g c =
+    let shown = g.E.Element.shown in
+    let p = c.args.parts in
+    let asks = open_asks p.header.variables (vec_len p.table) (vec_len p.order) in
+    let holds : Hold asks = holds_of asks (λ a. a ≡ granted []) [] c.in-Ok.ensures in
+    let table : vec_items (with_items p.table c.clear.new.table) ≡ c.clear.new.table = with_items_is p.table c.clear.new.table (c.clear.ensures.len ∙ c.deref_mut.ensures.len) in
+    let order : vec_items (with_items p.order c.write_natural_order.new.order) ≡ c.write_natural_order.new.order =
+    with_items_is p.order c.write_natural_order.new.order (ap length c.write_natural_order.ensures ∙ (natural_ordered p.header.variables holds.0.most).eight ∙ sym holds.1.1.0) in
     record {
-      answered = inr (count, inr (room, inr (sym c.len.ensures ∙ c.if-len-ne8.false, refl)));
-      outcome = opened_by g.E.Element.admitted g.E.Element.shown
-          (record { table = c.clear.new.table; order = c.write_natural_order.new.order; header = record { variables = c.args.parts.header.variables; rows = 0 } }) _ _ count room c.clear.ensures.len c.clear.ensures.blanks c.write_natural_order.ensures refl refl;
+      answered = c.in-Ok.ensures;
+      outcome = opened_by g.E.Element.admitted shown record { table = with_items p.table c.clear.new.table; order = with_items p.order c.write_natural_order.new.order; header = record { variables = p.header.variables; rows = 0 } }
+          _ _ holds.0 holds.1.0 refl (λ k. ap (λ xs. row (map shown xs) k) table ∙ c.clear.ensures.blanks k) (order ∙ c.write_natural_order.ensures) refl refl;
     }
