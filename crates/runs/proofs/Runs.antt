@@ -1,6 +1,5 @@
 -- Runs: the law over every run, and a run that grows by one call. Assumes nothing.
-use Rattle.std.proofs.Common.{◌≡◌, ℕ, ◌+◌, ◌<◌, ◌≤◌, Bool, true, List, [], ◌∷◌, ◌++◌, map, length, get_or, take, is_err, IfOk, Ok, Err, vec_len, Result, sym, refl, ap, ◌∙◌, subst, inl, inr}
-use Rattle.std.proofs.lemmas.Bool.{false≢true}
+use Rattle.std.proofs.Common.{◌≡◌, ℕ, ◌+◌, ◌<◌, ◌≤◌, Bool, List, [], ◌∷◌, ◌++◌, map, length, get_or, take, IsErrAnd, Ok, Err, vec_len, Result, sym, refl, ap, ◌∙◌, subst, inl, inr}
 use Rattle.std.proofs.lemmas.List.{map_more, map_push, take_all}
 use Rattle.elements.specs.Element.{Shown}
 use Rattle.orderings.specs.Answer.{Answer, granted, refused}
@@ -10,13 +9,15 @@ use Rattle.sheets.specs.declared.parts.Parts.{Parts}
 use Rattle.sheets.specs.declared.parts.OpenSheet.{OpenSheet}
 use Rattle.sheets.specs.Book.{Book, Call, Follows, Answered, fresh, open_asks}
 use Rattle.sheets.specs.Read.{Stands, Opens}
+use Rattle.runs.specs.declared.replaying.Replayed.{Replayed}
+use Rattle.runs.specs.declared.replaying.NotReplayed.{NotReplayed}
+use Rattle.runs.specs.declared.replaying.NotReplayed.TheVariants.{OutOfMemory}
 use Rattle.runs.specs.declared.requests.Request.{Request}
 use Rattle.runs.specs.declared.requests.Request.TheVariants.{Insert, Withdraw, Arrange, Bar, Limit, Verdict, Weigh, Settle, Locate, Reopen}
 use Rattle.runs.specs.Runs.{Run, over, next, LawfulCall, LawfulCalls, Sound, RunLaw, EveryRunKeepsTheLaw}
-use Rattle.runs.specs.declared.requests.Reply.{Reply}
 use Rattle.runs.specs.declared.requests.Sheet.{Sheet}
 use Rattle.runs.specs.declared.requests.Sheet.TheVariants.{Open}
-use Rattle.runs.specs.Replies.{parts_of, book_of, call_of, answer_of, Ran}
+use Rattle.runs.specs.Replies.{Reply, Replays, parts_of, book_of, call_of, answer_of, Ran}
 use Rattle.runs.proofs.Judged.{granted_not_refused, refused_or_held}
 use Rattle.runs.proofs.Sound.{a_fresh_book_is_sound, every_call_keeps_books_sound}
 use Rattle.runs.proofs.Laws.{a_sound_book_keeps_the_law}
@@ -115,7 +116,8 @@ ran_by {E} {D} admits shown meaning law before calls start sheet replies opens s
           (a_fresh_book_is_sound admits before.header.variables (vec_len before.table) held.0 held.1.0) (lawful_calls shown meaning law calls) whole;
     }
 
--- nothing is owed where memory ran out
-pub unmade_of : {T X : Type 0} (P : T → Type 0) (r : Result T X) → is_err r ≡ true → IfOk r P
-unmade_of P (Ok t) e = absurd (false≢true e)
-unmade_of P (Err x) e = tt
+-- memory ran out
+pub out_of_memory : {E D : Type 0} (admits : ℕ → Bool) (shown : E → Shown) (meaning : D → Meaning) (before : Parts E) (calls : List (Request E D)) (r : Result (Replayed E D) (NotReplayed E)) →
+    IsErrAnd r (λ n. n ≡ OutOfMemory) → Replays admits shown meaning before calls r
+out_of_memory admits shown meaning before calls (Ok x) e = absurd e
+out_of_memory admits shown meaning before calls (Err n) e = subst (λ (n : NotReplayed _). Replays admits shown meaning before calls (Err n)) (sym e) tt

@@ -1,18 +1,19 @@
 -- One call on a sheet of either state, from the call's own contract. Assumes nothing.
-use Rattle.std.proofs.Common.{◌≡◌, ℕ, Bool, List, [], Some, None, sym, refl, ap, ◌∙◌, subst, inl, arith}
+use Rattle.std.proofs.Common.{◌≡◌, ℕ, Bool, List, [], Some, None, Ok, Err, Result, IsErrAnd, sym, refl, ap, ◌∙◌, subst, inl, arith}
 use Rattle.elements.specs.Element.{Shown}
-use Rattle.orderings.specs.Answer.{Answer, refused}
+use Rattle.orderings.specs.Answer.{Answer, granted, refused, answer}
+use Rattle.orderings.specs.declared.refusals.Refusal.{Refusal}
 use Rattle.divisions.specs.Laws.{Meaning, Lawful}
 use Rattle.sheets.specs.declared.parts.Parts.{Parts}
 use Rattle.sheets.specs.declared.parts.OpenSheet.{OpenSheet}
 use Rattle.sheets.specs.Book.{Takes}
 use Rattle.sheets.specs.Read.{Moved}
 use Rattle.runs.specs.declared.requests.Request.{Request}
-use Rattle.runs.specs.declared.requests.Reply.{Reply}
-use Rattle.runs.specs.declared.requests.Reply.TheVariants.{NotTaken}
+use Rattle.runs.specs.declared.requests.NotGranted.TheVariants.{NotTaken, Refused}
+use Rattle.runs.specs.declared.requests.Grant.{Grant}
 use Rattle.runs.specs.declared.requests.Sheet.{Sheet}
 use Rattle.runs.specs.declared.requests.Sheet.TheVariants.{Open}
-use Rattle.runs.specs.Replies.{parts_of, state_of, book_of, call_of, answer_of, Form, form_of, asked_form, Stepped}
+use Rattle.runs.specs.Replies.{Reply, grant_told, grant_form, parts_of, state_of, book_of, call_of, answer_of, Form, form_of, asked_form, Stepped}
 use Rattle.runs.proofs.Runs.{one_call}
 
 pub nothing_is_some : {X : Type 0} {x : X} → None ≡ Some x → ⊥
@@ -49,11 +50,29 @@ module _ {E D : Type 0} (admits : ℕ → Bool) (shown : E → Shown) (meaning :
       taken_step before (Open s) (Open t) request k reply told same asked replied takes m
       (λ r vs e. ap (λ (p : Parts E). Open (record { parts = p })) (m.kept r vs e).1) form
 
+  -- a call that leaves an open sheet open, and what it was told
+  module _ (s t : OpenSheet E) (request k : Request E D) {R : Type 0} (tells : R → List ℕ) (told : Result R Refusal) (asked : request ≡ k)
+      (takes : Takes (state_of {E = E} meaning (Open s)) (call_of shown meaning k))
+      (m : Moved admits shown (state_of {E = E} meaning (Open s)) s.parts (call_of shown meaning k) (answer tells told) (state_of {E = E} meaning (Open t)) t.parts) where
+    pub granted_step : (x : R) (gr : Grant E) → told ≡ Ok x → grant_told shown gr ≡ tells x → grant_form gr ≡ asked_form (call_of shown meaning k) →
+        Stepped admits shown meaning (Open s) request (Open t) (Ok gr)
+    granted_step x gr is same form =
+        open_step (Open s) s t request k (Ok gr) (answer tells told) refl asked (ap granted same ∙ ap (answer tells) (sym is)) takes m (λ f e. one_form e ∙ form)
+
+    pub refused_step : (why : Refusal) (reply : Reply E) → told ≡ Err why → IsErrAnd reply (λ n. n ≡ Refused why) → Stepped admits shown meaning (Open s) request (Open t) reply
+    refused_step why reply is error =
+        subst (λ (r : Reply E). Stepped admits shown meaning (Open s) request (Open t) r) (sym (reply_is reply error))
+        (open_step (Open s) s t request k (Err (Refused why)) (answer tells told) refl asked (ap (answer tells) (sym is)) takes m (λ f e. absurd (nothing_is_some e)))
+      where
+        reply_is : (r : Reply E) → IsErrAnd r (λ n. n ≡ Refused why) → r ≡ Err (Refused why)
+        reply_is (Ok x) e = absurd e
+        reply_is (Err n) e = ap Err e
+
   -- a call that the state does not take
   pub untaken_step : (before s : Sheet E D) (request k : Request E D) → before ≡ s → request ≡ k → (Takes (state_of meaning s) (call_of shown meaning k) → ⊥) →
-      Stepped admits shown meaning before request s NotTaken
+      Stepped admits shown meaning before request s (Err NotTaken)
   untaken_step before s request k same asked never =
-      let at : Stepped admits shown meaning s k s NotTaken = record {
+      let at : Stepped admits shown meaning s k s (Err NotTaken) = record {
         stands = λ st. st;
         follows = λ _. inl (never, refl);
         answered = λ _. inl (never, refl);
@@ -63,5 +82,5 @@ module _ {E D : Type 0} (admits : ℕ → Bool) (shown : E → Shown) (meaning :
         form = λ f e. absurd (nothing_is_some e);
         law = λ _ sound. one_call shown meaning law (book_of admits shown meaning s) (book_of admits shown meaning s) k (refused 3 []) sound (inl (never, refl)) (inl (never, refl));
       } in
-      subst (λ (x : Sheet E D). Stepped admits shown meaning x request s NotTaken) (sym same)
-      (subst (λ (x : Request E D). Stepped admits shown meaning s x s NotTaken) (sym asked) at)
+      subst (λ (x : Sheet E D). Stepped admits shown meaning x request s (Err NotTaken)) (sym same)
+      (subst (λ (x : Request E D). Stepped admits shown meaning s x s (Err NotTaken)) (sym asked) at)

@@ -1,20 +1,27 @@
 -- How requests, replies and sheets of either state are read as calls, answers and books. Assumes nothing.
-use Rattle.std.specs.Prelude.{◌≡◌, ℕ, Bool, List, [], ◌∷◌, map, Some, None, Err, vec_items, vec_len, Option}
+use Rattle.std.specs.Prelude.{◌≡◌, ℕ, Bool, List, [], ◌∷◌, map, Some, None, Ok, Err, vec_items, vec_len, Option, Result}
 use Rattle.elements.specs.Element.{Shown}
 use Rattle.orderings.specs.Answer.{Answer, granted, refused, refusal, Answers}
 use Rattle.divisions.specs.Laws.{Meaning}
 use Rattle.sheets.specs.declared.parts.Parts.{Parts}
 use Rattle.sheets.specs.Book.{Book, State, opened, settled_by, Call, insert, withdraw, arrange, bar, limit, verdict, weigh, settle, locate, reopen, limit_told, Takes, Follows, Answered, fresh, open_asks}
 use Rattle.sheets.specs.Read.{Stands, book, Opens, bar_told, verdict_told, served_told}
-use Rattle.runs.specs.declared.replaying.Outcome.{Outcome}
-use Rattle.runs.specs.declared.replaying.Outcome.TheVariants.{Unopened, Ran as Went}
+use Rattle.runs.specs.declared.replaying.Replayed.{Replayed}
+use Rattle.runs.specs.declared.replaying.NotReplayed.{NotReplayed}
+use Rattle.runs.specs.declared.replaying.NotReplayed.TheVariants.{Unopened, OutOfMemory}
 use Rattle.runs.specs.Runs.{Run, Sound, RunLaw}
 use Rattle.runs.specs.declared.requests.Request.{Request}
 use Rattle.runs.specs.declared.requests.Request.TheVariants.{Insert, Withdraw, Arrange, Bar, Limit, Verdict, Weigh, Settle, Locate, Reopen}
-use Rattle.runs.specs.declared.requests.Reply.{Reply}
-use Rattle.runs.specs.declared.requests.Reply.TheVariants.{Done, Place, Settled as Found, NotTaken, Refused, Bar as TellBar, Limit as TellLimit, Verdict as TellVerdict}
+use Rattle.runs.specs.declared.requests.Grant.{Grant}
+use Rattle.runs.specs.declared.requests.Grant.TheVariants.{Done, Place, Settled as Found, Bar as TellBar, Limit as TellLimit, Verdict as TellVerdict}
+use Rattle.runs.specs.declared.requests.NotGranted.{NotGranted}
+use Rattle.runs.specs.declared.requests.NotGranted.TheVariants.{NotTaken, Refused}
 use Rattle.runs.specs.declared.requests.Sheet.{Sheet}
 use Rattle.runs.specs.declared.requests.Sheet.TheVariants.{Open, Settled}
+
+-- a reply: what a grant tells, or why there is none
+abbrev pub Reply : Type 0 → Type 0
+Reply E = Result (Grant E) NotGranted
 
 -- the parts of a sheet of either state
 abbrev pub parts_of : {E D : Type 0} → Sheet E D → Parts E
@@ -38,15 +45,19 @@ module _ {E : Type 0} (shown : E → Shown) where
   call_of meaning (Locate e) = locate (shown e)
   call_of meaning Reopen = reopen
 
+  -- what a grant tells
+  abbrev pub grant_told : Grant E → List ℕ
+  grant_told Done = []
+  grant_told (Place p) = p ∷ []
+  grant_told (TellBar b) = bar_told b
+  grant_told (TellLimit l) = limit_told l
+  grant_told (TellVerdict v) = verdict_told shown v
+  grant_told (Found served) = served_told served
+
   abbrev pub answer_of : Reply E → Answer
-  answer_of Done = granted []
-  answer_of (Place p) = granted (p ∷ [])
-  answer_of (TellBar b) = granted (bar_told b)
-  answer_of (TellLimit l) = granted (limit_told l)
-  answer_of (TellVerdict v) = granted (verdict_told shown v)
-  answer_of (Found served) = granted (served_told served)
-  answer_of NotTaken = refused 3 []
-  answer_of (Refused why) = refusal why
+  answer_of (Ok grant) = granted (grant_told grant)
+  answer_of (Err NotTaken) = refused 3 []
+  answer_of (Err (Refused why)) = refusal why
 
 -- the forms that granted replies have
 pub data Form : Type 0 where
@@ -58,15 +69,17 @@ pub data Form : Type 0 where
   settles : Form
 
 -- the form of a granted reply, and the form that a call asks for
+abbrev pub grant_form : {E : Type 0} → Grant E → Form
+grant_form Done = done
+grant_form (Place p) = place
+grant_form (TellBar b) = bars
+grant_form (TellLimit l) = limits
+grant_form (TellVerdict v) = verdicts
+grant_form (Found served) = settles
+
 abbrev pub form_of : {E : Type 0} → Reply E → Option Form
-form_of Done = Some done
-form_of (Place p) = Some place
-form_of (TellBar b) = Some bars
-form_of (TellLimit l) = Some limits
-form_of (TellVerdict v) = Some verdicts
-form_of (Found served) = Some settles
-form_of NotTaken = None
-form_of (Refused why) = None
+form_of (Ok grant) = Some (grant_form grant)
+form_of (Err why) = None
 
 abbrev pub asked_form : Call → Form
 asked_form (insert e) = place
@@ -106,7 +119,8 @@ module _ {E D : Type 0} (admits : ℕ → Bool) (shown : E → Shown) (meaning :
     pub run : Run (fresh admits before.header.variables (vec_len before.table)) (map (call_of shown meaning) calls) (map (answer_of shown) replies) (book_of sheet)
     pub law : RunLaw (fresh admits before.header.variables (vec_len before.table)) (map (call_of shown meaning) calls) (map (answer_of shown) replies) (book_of sheet)
 
-  -- what a list of calls came to: the opening was refused, or they ran
-  abbrev pub Replays : Parts E → List (Request E D) → Outcome E D → Type 0
-  Replays before calls (Unopened denied) = Opens admits shown before (Err denied)
-  Replays before calls (Went sheet replies) = Ran before calls sheet (vec_items replies)
+  -- what a list of calls came to: they ran, or the opening was refused, or memory ran out
+  abbrev pub Replays : Parts E → List (Request E D) → Result (Replayed E D) (NotReplayed E) → Type 0
+  Replays before calls (Ok r) = Ran before calls r.sheet (vec_items r.replies)
+  Replays before calls (Err (Unopened denied)) = Opens admits shown before (Err denied)
+  Replays before calls (Err OutOfMemory) = Unit {0}

@@ -2,6 +2,5 @@
 #![tactic(auto)]
 
 pub mod replaying;
-mod replying;
 pub mod requests;
 pub mod stepping;

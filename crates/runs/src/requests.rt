@@ -1,4 +1,7 @@
 // Calls as values, what is replied to them, and a sheet in either state.
+ghost use Rattle.std.specs.Prelude.{◌≡◌};
+ghost use Rattle.runs.specs.declared.requests.NotGranted.TheVariants.{Refused};
+
 use orderings::refusals::Refusal;
 use sheets::parts::*;
 
@@ -18,19 +21,35 @@ pub enum Request<'a, E, D> {
     Reopen,
 }
 
-// What is replied to a call.
-#[derive(Clone, Copy)]
-pub enum Reply<E> {
+// What a granted call tells.
+#[derive(Clone, Copy, PartialEq, Eq, Debug)]
+pub enum Grant<E> {
     Done,
     Place(usize),
     Bar(Bar),
     Limit(Option<u16>),
     Verdict(Verdict<E>),
     Settled(Served),
+}
+
+// Why a call is not granted.
+#[derive(Clone, Copy, PartialEq, Eq, Debug)]
+pub enum NotGranted {
     // the sheet's state does not take the call
     NotTaken,
     Refused(Refusal),
 }
+
+impl From<Refusal> for NotGranted {
+    ghost from_gives = { λ why n. n ≡ Refused why };
+
+    fn from(why: Refusal) -> NotGranted {
+        NotGranted::Refused(why)
+    }
+}
+
+// What is replied to a call.
+pub type Reply<E> = Result<Grant<E>, NotGranted>;
 
 // A sheet, open or settled.
 #[derive(Drop)]

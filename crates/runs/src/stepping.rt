@@ -1,12 +1,37 @@
 // One call on a sheet.
+ghost use Rattle.std.specs.Prelude.{◌≡◌};
+ghost use Rattle.runs.specs.declared.requests.Request.TheVariants.{Settle};
 ghost use Rattle.runs.specs.declared.requests.Sheet.TheVariants.{Open, Settled};
 ghost use Rattle.runs.specs.Replies.{Stepped};
 
-use crate::replying::*;
 use crate::requests::*;
 use divisions::Division;
 use elements::Element;
 use sheets::parts::*;
+
+// Asks an open sheet for what leaves it open: every call that it takes but settle.
+fn ask<E: Element, D: Division>(sheet: &mut OpenSheet<E>, request: &Request<E, D>) -> Reply<E>
+    ensures { ((d : D) → request.now ≡ Settle d → ⊥) → Stepped E.Element.admitted E.Element.shown D.Division.meaning (Open sheet.old) request.now (Open sheet.new) result }
+{
+    match request {
+        Request::Insert(e) => Ok(Grant::Place(sheet.insert(*e)?)),
+        Request::Withdraw(e) => {
+            sheet.withdraw(e)?;
+            Ok(Grant::Done)
+        }
+        Request::Arrange(list) => {
+            sheet.arrange(list)?;
+            Ok(Grant::Done)
+        }
+        Request::Bar(place, variable) => Ok(Grant::Bar(sheet.bar(*place, *variable)?)),
+        Request::Limit(d, place, variable) => {
+            Ok(Grant::Limit(sheet.limit(d, *place, *variable)?))
+        }
+        Request::Verdict(d) => Ok(Grant::Verdict(sheet.verdict(d)?)),
+        Request::Weigh(d, list) => Ok(Grant::Verdict(sheet.weigh(d, list)?)),
+        Request::Settle(_) | Request::Locate(_) | Request::Reopen => Err(NotGranted::NotTaken),
+    }
+}
 
 // A call on an open sheet.
 fn step_open<E: Element, D: Division>(
@@ -15,43 +40,15 @@ fn step_open<E: Element, D: Division>(
 ) -> (Sheet<E, D>, Reply<E>)
     ensures { Stepped E.Element.admitted E.Element.shown D.Division.meaning (Open sheet) request.now result.0 result.1 }
 {
-    let mut s = sheet;
-    match request {
-        Request::Insert(e) => {
-            let told = s.insert(*e);
-            (Sheet::Open(s), placed(told))
-        }
-        Request::Withdraw(e) => {
-            let told = s.withdraw(e);
-            (Sheet::Open(s), done(told))
-        }
-        Request::Arrange(list) => {
-            let told = s.arrange(list);
-            (Sheet::Open(s), done(told))
-        }
-        Request::Bar(place, variable) => {
-            let told = s.bar(*place, *variable);
-            (Sheet::Open(s), barred(told))
-        }
-        Request::Limit(d, place, variable) => {
-            let told = s.limit(d, *place, *variable);
-            (Sheet::Open(s), limited(told))
-        }
-        Request::Verdict(d) => {
-            let told = s.verdict(d);
-            (Sheet::Open(s), judged(told))
-        }
-        Request::Weigh(d, list) => {
-            let told = s.weigh(d, list);
-            (Sheet::Open(s), judged(told))
-        }
-        Request::Settle(d) => match s.settle(*d) {
-            Ok(Settling { sheet, served }) => (Sheet::Settled(sheet), Reply::Settled(served)),
-            Err(Denied { back, why }) => (Sheet::Open(back), Reply::Refused(why)),
-        },
-        Request::Locate(_) => (Sheet::Open(s), Reply::NotTaken),
-        Request::Reopen => (Sheet::Open(s), Reply::NotTaken),
+    let mut sheet = sheet;
+    if let Request::Settle(d) = request {
+        return match sheet.settle(*d) {
+            Ok(Settling { sheet, served }) => (Sheet::Settled(sheet), Ok(Grant::Settled(served))),
+            Err(Denied { back, why }) => (Sheet::Open(back), Err(NotGranted::from(why))),
+        };
     }
+    let reply = ask(&mut sheet, request);
+    (Sheet::Open(sheet), reply)
 }
 
 // A call on a settled sheet.
@@ -63,21 +60,24 @@ fn step_settled<E: Element, D: Division>(
 {
     match request {
         Request::Locate(e) => {
-            let told = sheet.locate(e);
-            (Sheet::Settled(sheet), placed(told))
+            let reply = match sheet.locate(e) {
+                Ok(place) => Ok(Grant::Place(place)),
+                Err(why) => Err(NotGranted::from(why)),
+            };
+            (Sheet::Settled(sheet), reply)
         }
         Request::Reopen => match sheet.reopen() {
-            Ok(open) => (Sheet::Open(open), Reply::Done),
-            Err(Denied { back, why }) => (Sheet::Settled(back), Reply::Refused(why)),
+            Ok(open) => (Sheet::Open(open), Ok(Grant::Done)),
+            Err(Denied { back, why }) => (Sheet::Settled(back), Err(NotGranted::from(why))),
         },
-        Request::Insert(_) => (Sheet::Settled(sheet), Reply::NotTaken),
-        Request::Withdraw(_) => (Sheet::Settled(sheet), Reply::NotTaken),
-        Request::Arrange(_) => (Sheet::Settled(sheet), Reply::NotTaken),
-        Request::Bar(_, _) => (Sheet::Settled(sheet), Reply::NotTaken),
-        Request::Limit(_, _, _) => (Sheet::Settled(sheet), Reply::NotTaken),
-        Request::Verdict(_) => (Sheet::Settled(sheet), Reply::NotTaken),
-        Request::Weigh(_, _) => (Sheet::Settled(sheet), Reply::NotTaken),
-        Request::Settle(_) => (Sheet::Settled(sheet), Reply::NotTaken),
+        Request::Insert(_)
+        | Request::Withdraw(_)
+        | Request::Arrange(_)
+        | Request::Bar(_, _)
+        | Request::Limit(_, _, _)
+        | Request::Verdict(_)
+        | Request::Weigh(_, _)
+        | Request::Settle(_) => (Sheet::Settled(sheet), Err(NotGranted::NotTaken)),
     }
 }
 
