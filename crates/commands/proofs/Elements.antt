@@ -1,30 +1,28 @@
 -- An element from its bytes. Assumes nothing.
-use Rattle.std.proofs.Common.{◌≡◌, ℕ, suc, ◌+◌, ◌-◌, ◌*◌, ◌<◌, List, length, get_or, set, Some, None, Option, unwrap_or, sym, ◌∙◌, arith, Bor, below_more}
-use Rattle.std.specs.Option.{option_map}
-use Rattle.std.specs.Slice.{IsGetResult}
-use Rattle.std.proofs.lemmas.List.{get_or_past, get_or-set_same, get_or-set_other, length-set}
+use Rattle.std.proofs.Common.{◌≡◌, ℕ, zero, suc, ◌≤◌, inl, inr, refl, subst, ◌+◌, ◌-◌, ◌*◌, ◌<◌, List, length, get_or, arith}
+use Rattle.std.specs.Array.{IsFromFnResult, IsFromFnResultFrom}
+use Rattle.std.specs.Fn.{Mut, Called}
+use Rattle.std.proofs.lemmas.Bool.{cases_eq}
 use Rattle.elements.proofs.Terms.{term_by_places, shown_path}
 use Rattle.commands.specs.Log.{element}
-
--- the item at a place, or 0 past the end
-pub item_or_zero : (xs : List ℕ) (i : ℕ) (r : Option (Bor ℕ)) → IsGetResult xs i i r → unwrap_or (option_map (λ x. x.now) r) 0 ≡ get_or xs i 0
-item_or_zero xs i None h = sym (get_or_past xs i 0 h.3)
-item_or_zero xs i (Some x) h = h.3.1 0
 
 -- the exponent at a place, counted from 0, as the bytes have it
 abbrev pub pair : List ℕ → ℕ → ℕ
 pair bytes k = get_or bytes (2 * k + 1) 0 * 256 + get_or bytes (2 * k + 2) 0
 
--- one more exponent
-pub written_more : (bytes xs : List ℕ) (i x : ℕ) → i < 8 → (length xs ≡ 8) × ((k : ℕ) → k < i → get_or xs k 0 ≡ pair bytes k) → x ≡ pair bytes i →
-    (length (set xs i x) ≡ 8) × ((k : ℕ) → k < i + 1 → get_or (set xs i x) k 0 ≡ pair bytes k)
-written_more bytes xs i x small h e =
-    let within : i < length xs = omega (arith, h.0) in (
-      length-set xs i x ∙ h.0,
-      below_more _ _
-          (λ k l. let other : k ≡ i → ⊥ = λ q. omega arith in get_or-set_other xs i k x 0 other ∙ h.1 k l)
-          (get_or-set_same xs i x 0 within ∙ e),
-    )
+-- what each call of a closure gives that no call changes holds at each place of the array that the calls make
+module _ {F B : Type 0} (g : Mut F (ℕ × Unit {0}) B) (f : F) (Gives : ℕ → B → Type 0) (step : (i : ℕ) (y : B) (f' : F) → Called g f (i, tt) y f' → Gives i y × (f' ≡ f)) (ys : List B) (d : B) where
+  made_from : (q : F) (i n : ℕ) → q ≡ f → IsFromFnResultFrom g q ys i n → (k : ℕ) → i ≤ k → k < i + n → Gives k (get_or ys k d)
+  made_from q i zero e r k l h = absurd (omega arith)
+  made_from q i (suc n) e r k l h =
+      let now = step i r.1 r.0 (subst (λ p. Called g p (i, tt) r.1 r.0) e r.3) in
+      elim (cases_eq k i) [
+        | inl s ↦ rw s (rw (r.2.1 d) now.0)
+        | inr t ↦ made_from r.0 (i + 1) n now.1 r.4 k (omega arith) (omega arith)
+      ]
+
+  pub made : (n : ℕ) → IsFromFnResult g f ys n → (k : ℕ) → k < n → Gives k (get_or ys k d)
+  made n r k h = made_from f 0 n refl r.each k (omega arith) (omega arith)
 
 -- all exponents, with the family
 pub element_written : (bytes xs : List ℕ) (f : ℕ) → f ≡ get_or bytes 0 0 → length xs ≡ 8 → ((k : ℕ) → k < 8 → get_or xs k 0 ≡ pair bytes k) →

@@ -1,53 +1,7 @@
--- A log from its parts, and its parts from the log. Assumes nothing.
-use Rattle.std.proofs.Common.{◌≡◌, ℕ, ◌+◌, ◌-◌, ◌<◌, List, [], ◌∷◌, ◌++◌, length, get_or, take, drop, Err, Option, Result, sym, refl, ap, ◌∙◌, inl, inr, arith, length-append}
+-- A log begins in one way only. Assumes nothing.
+use Rattle.std.proofs.Common.{◌≡◌, ℕ, ◌+◌, List, [], ◌∷◌, ◌++◌, length, take, drop, sym, refl, ap, ◌∙◌, inl, inr, arith, length-append}
 use Rattle.std.proofs.lemmas.List.{take_at, drop_at}
-use Rattle.std.proofs.lemmas.Slice.{first_rest}
-use Rattle.commands.specs.declared.Misread.TheVariants.{CutShort}
-use Rattle.commands.specs.declared.Misreading.{Misreading}
-use Rattle.commands.specs.declared.Reading.{Reading}
-use Rattle.commands.specs.Read.{front}
-use Rattle.commands.specs.Log.{Code, width, Parted, nothing, command, misread, Whole, Unknown, Short, Reads, ReadingHasOneOutcome}
-
--- what follows the first byte
-abbrev pub after : List ℕ → List ℕ
-after log = take (length log - 1) (drop 1 log)
-
-pub begins : (log : List ℕ) (code : ℕ) → 0 < length log → get_or log 0 0 ≡ code → log ≡ code ∷ after log
-begins log code some is = first_rest log 0 some ∙ ap (λ x. x ∷ after log) is
-
-pub none_left : (log : List ℕ) → length log ≡ 0 → log ≡ []
-none_left [] e = refl
-none_left (x ∷ xs) e = absurd (omega arith)
-
-pub parted_none : (bytes : List ℕ) → Parted 0 bytes [] bytes
-parted_none bytes = record { wide = refl; parts = refl }
-
-pub parted_one : (bytes rest : List ℕ) (byte : ℕ) → bytes ≡ byte ∷ rest → Parted 1 bytes (byte ∷ []) rest
-parted_one bytes rest byte e = record { wide = refl; parts = e }
-
-pub parted_more : (bytes more first rest : List ℕ) (byte : ℕ) → bytes ≡ byte ∷ more → Parted 8 more first rest → Parted 9 bytes (byte ∷ first) rest
-parted_more bytes more first rest byte e p = record { wide = omega (arith, p.wide); parts = e ∙ ap (λ l. byte ∷ l) p.parts }
-
-pub whole_from : (log : List ℕ) (code : ℕ) (operands rest : List ℕ) → 0 < length log → get_or log 0 0 ≡ code → Code code →
-    Parted (width code) (after log) operands rest → Whole log code operands rest
-whole_from log code operands rest some is known p =
-    record { known = known; wide = p.wide; parts = begins log code some is ∙ ap (λ l. code ∷ l) p.parts }
-
-pub unknown_from : (log : List ℕ) (first : ℕ) → 0 < length log → get_or log 0 0 ≡ first → (Code first → ⊥) → Unknown log first
-unknown_from log first some is no_code = record { after = after log; unknown = no_code; parts = begins log first some is }
-
-pub few_none : (bytes : List ℕ) (n : ℕ) → bytes ≡ [] → 0 < n → length bytes < n
-few_none bytes n e h = omega (arith, ap length e)
-
-pub few_more : (bytes more : List ℕ) (byte : ℕ) → bytes ≡ byte ∷ more → length more < 8 → length bytes < 9
-few_more bytes more byte e h = omega (arith, ap length e)
-
--- what the reader tells of a code that too few bytes follow
-pub short_read : (log : List ℕ) (code : ℕ) (r : Result (Option Reading) Misreading) → r ≡ Err (record { code = get_or log 0 0; cause = CutShort }) →
-    0 < length log → get_or log 0 0 ≡ code → Code code → length (after log) < width code → Reads log (front r)
-short_read log code r e some is known few =
-    let told : r ≡ Err (record { code = code; cause = CutShort }) = cc in
-    rw told (inr (record { after = after log; known = known; short = few; parts = begins log code some is }, refl))
+use Rattle.commands.specs.Log.{width, nothing, command, misread, Whole, Unknown, Short, ReadingHasOneOutcome}
 
 -- two lists with equal starts of one length
 front_same : (a b c d : List ℕ) → length a ≡ length c → a ++ b ≡ c ++ d → a ≡ c

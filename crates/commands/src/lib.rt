@@ -6,9 +6,10 @@ ghost use Rattle.commands.specs.Log.{Reads, ReadingHasOneOutcome, Parted, elemen
 ghost use Rattle.commands.specs.Read.{code_of, number_of, front};
 
 use elements::Element;
+use std::array;
 
 // A command, with the part of the log that holds its operands.
-#[derive(Clone, Copy)]
+#[derive(Clone, Copy, PartialEq, Eq, Debug)]
 pub enum Command<'a> {
     // The bytes of an element.
     Insert(&'a [u8]),
@@ -23,12 +24,12 @@ pub enum Command<'a> {
     Reopen,
 }
 
-impl Command<'_> {
-    // The byte that the command begins with.
-    pub fn code(&self) -> u8
-        ensures { result ≡ code_of self.now }
-    {
-        match self {
+// The byte that the command begins with.
+impl From<Command<'_>> for u8 {
+    ghost from_gives = { λ c n. n ≡ code_of c };
+
+    fn from(command: Command<'_>) -> u8 {
+        match command {
             Command::Insert(_) => 0x01,
             Command::Withdraw(_) => 0x02,
             Command::Arrange(_) => 0x03,
@@ -50,12 +51,12 @@ pub enum Misread {
     CutShort,
 }
 
-impl Misread {
-    // The number by which it is told.
-    pub fn number(&self) -> u8
-        ensures { result ≡ number_of self.now }
-    {
-        match self {
+// The number by which it is told.
+impl From<Misread> for u8 {
+    ghost from_gives = { λ m n. n ≡ number_of m };
+
+    fn from(misread: Misread) -> u8 {
+        match misread {
             Misread::UnknownCode => 1,
             Misread::CutShort => 2,
         }
@@ -63,7 +64,7 @@ impl Misread {
 }
 
 // A command and what follows it in the log.
-#[derive(Clone, Copy)]
+#[derive(Clone, Copy, PartialEq, Eq, Debug)]
 pub struct Reading<'a> {
     pub command: Command<'a>,
     pub rest: &'a [u8],
@@ -107,71 +108,51 @@ fn one(code: u8, after: &[u8]) -> Result<(&u8, &[u8]), Misreading>
 }
 
 // The command at the front of a log, if any is left. The first byte decides it, and then what follows is judged.
+#[tactic(auto, using(crate::proofs::Fronts::reading_has_one_outcome))]
 pub fn read(log: &[u8]) -> Result<Option<Reading<'_>>, Misreading>
     ensures reads { Reads log.now (front result) }
     ensures once { ReadingHasOneOutcome }
 {
-    match log {
-        [] => Ok(None),
+    let (command, rest) = match log {
+        [] => return Ok(None),
         [code @ 0x01, after @ ..] => {
             let (element, rest) = part(*code, after, ELEMENT_BYTES)?;
-            Ok(Some(Reading {
-                command: Command::Insert(element),
-                rest,
-            }))
+            (Command::Insert(element), rest)
         }
         [code @ 0x02, after @ ..] => {
             let (element, rest) = part(*code, after, ELEMENT_BYTES)?;
-            Ok(Some(Reading {
-                command: Command::Withdraw(element),
-                rest,
-            }))
+            (Command::Withdraw(element), rest)
         }
         [code @ 0x03, after @ ..] => {
             let (order, rest) = part(*code, after, ORDER_BYTES)?;
-            Ok(Some(Reading {
-                command: Command::Arrange(order),
-                rest,
-            }))
+            (Command::Arrange(order), rest)
         }
         [code @ 0x04, after @ ..] => {
             let (division, rest) = one(*code, after)?;
-            Ok(Some(Reading {
-                command: Command::Verdict(division),
-                rest,
-            }))
+            (Command::Verdict(division), rest)
         }
         [code @ 0x05, after @ ..] => {
             let (division, after) = one(*code, after)?;
             let (order, rest) = part(*code, after, ORDER_BYTES)?;
-            Ok(Some(Reading {
-                command: Command::Weigh { division, order },
-                rest,
-            }))
+            (Command::Weigh { division, order }, rest)
         }
         [code @ 0x06, after @ ..] => {
             let (division, rest) = one(*code, after)?;
-            Ok(Some(Reading {
-                command: Command::Settle(division),
-                rest,
-            }))
+            (Command::Settle(division), rest)
         }
         [code @ 0x07, after @ ..] => {
             let (element, rest) = part(*code, after, ELEMENT_BYTES)?;
-            Ok(Some(Reading {
-                command: Command::Locate(element),
-                rest,
-            }))
+            (Command::Locate(element), rest)
         }
-        [0x08, rest @ ..] => Ok(Some(Reading {
-            command: Command::Reopen,
-            rest,
-        })),
-        [code, ..] => Err(Misreading {
-            code: *code,
-            cause: Misread::UnknownCode,
-        }),
-    }
+        [0x08, rest @ ..] => (Command::Reopen, rest),
+        [code, ..] => {
+            return Err(Misreading {
+                code: *code,
+                cause: Misread::UnknownCode,
+            });
+        }
+    };
+    Ok(Some(Reading { command, rest }))
 }
 
 // The byte at a place, or 0 past the end.
@@ -185,9 +166,8 @@ fn byte_at(bytes: &[u8], place: usize) -> u8
 pub fn element_of<E: Element>(bytes: &[u8]) -> E
     ensures { E.Element.shown result ≡ element bytes.now }
 {
-    let mut exponents = [0u16; 8];
-    for i in 0..8 {
-        exponents[i] = u16::from_be_bytes([byte_at(bytes, 2 * i + 1), byte_at(bytes, 2 * i + 2)]);
-    }
+    let exponents = array::from_fn(|i| {
+        u16::from_be_bytes([byte_at(bytes, 2 * i + 1), byte_at(bytes, 2 * i + 2)])
+    });
     E::make(byte_at(bytes, 0), exponents)
 }

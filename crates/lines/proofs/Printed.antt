@@ -1,13 +1,11 @@
 -- Text that is written item by item. Assumes nothing.
-use Rattle.std.proofs.Common.{◌≡◌, ℕ, ◌+◌, ◌-◌, ◌/◌, ◌%◌, ◌<◌, ◌≤◌, min, List, [], ◌∷◌, ◌++◌, map, length, get_or, take, codes, decimal, sym, refl, ap, ◌∙◌, inl, inr, append_assoc, append-nil, arith, rules}
-use lib.Utf8.{encode}
+use Rattle.std.proofs.Common.{◌≡◌, Some, Bor, ℕ, ◌+◌, ◌-◌, ◌/◌, ◌%◌, ◌^◌, ◌<◌, ◌≤◌, true, List, [], ◌∷◌, ◌++◌, map, length, get_or, take, codes, decimal, sym, refl, ap, ◌∙◌, append_assoc, append-nil, arith}
 use Rattle.std.specs.declared.fmt.Formatter.{Formatter}
-use Rattle.std.specs.Fmt.{HasWritten}
+use Rattle.std.specs.Fmt.{HasWritten, format_spec, digit_glyph, digits_output, radix_digits, styled_digits_output}
 use Rattle.std.proofs.Output.{has_written_of_eq, has_written_append}
-use Rattle.std.proofs.lemmas.Str.Ascii.{encode_ascii}
-use Rattle.std.proofs.ByRecursion.{IsAscii-from_all}
+use Rattle.std.proofs.lemmas.Fmt.{hex_byte}
+use Rattle.std.proofs.lemmas.List.FromFn.{get_or-map-range_with_len}
 use Rattle.std.proofs.lemmas.List.{take_more, take_all}
-use Rattle.std.proofs.lemmas.Bool.{cases_lt}
 use Rattle.lines.specs.Words.{each, after_space, ended, spaced, hex_digit, hex}
 
 pub each_append : {A : Type 0} (text : A → List ℕ) (xs ys : List A) → each text (xs ++ ys) ≡ each text xs ++ each text ys
@@ -37,31 +35,29 @@ module _ {W A : Type 0} (took : W → List ℕ → W → Type 0) (text : A → L
   pub put_all : (f g : Formatter W) → length xs ≤ i → HasWritten took f (each text (take i xs)) g → HasWritten took f (each text xs) g
   put_all f g l p = has_written_of_eq took f _ _ g (each_all text xs i l) p
 
-hex_ascii : (d : ℕ) → hex_digit d < 128
-hex_ascii = IsAscii-from_all (codes "0123456789ABCDEF") (search rules)
+-- a capital digit of the library is one of the sixteen
+upper_digit : (d : ℕ) → d < 16 → digit_glyph true d ≡ hex_digit d
+upper_digit d h = sym (get_or-map-range_with_len (digit_glyph true) 0 16 d d 0 h (omega arith))
 
--- two digits are a byte's text
-pub two_digits : (n high low : ℕ) → n < 256 → high ≡ hex_digit (n / 16 % 16) → low ≡ hex_digit (n % 16) → encode high ++ encode low ≡ hex n
-two_digits n high low small eh el =
-    let top : n / 16 % 16 ≡ n / 16 = omega arith in
-    let h : high ≡ hex_digit (n / 16) = eh ∙ ap hex_digit top in
-    let a : encode high ≡ hex_digit (n / 16) ∷ [] = ap encode h ∙ encode_ascii (hex_digit (n / 16)) (hex_ascii (n / 16)) in
-    let b : encode low ≡ hex_digit (n % 16) ∷ [] = ap encode el ∙ encode_ascii (hex_digit (n % 16)) (hex_ascii (n % 16)) in
-    rw (a, b)
+-- what `{:02X}` writes of a byte
+pub hex_shown : (d : _) (s : _) (n : ℕ) → n < 256 → digits_output d ≡ Some (radix_digits 16 true n) → s ≡ format_spec 32 0 4 2 (2 ^ 64 - 1) → styled_digits_output d s ≡ Some (hex n)
+hex_shown d s n small e f =
+    let high = upper_digit (n / 16) (omega arith) in
+    let low = upper_digit (n % 16) (omega arith) in
+    rw (f, e) (ap Some (hex_byte true n small ∙ cc))
 
--- the first entries of eight, where there may be fewer
-first_of_eight : (xs : List ℕ) (n : ℕ) → length xs ≡ 8 → take (min n 8 - 0) xs ≡ take n xs
-first_of_eight xs n e = elim (cases_lt n 8) [
-  | inl l ↦ (let same : min n 8 - 0 ≡ n = omega arith in ap (λ k. take k xs) same)
-  | inr m ↦ take_all (min n 8 - 0) xs (omega arith) ∙ sym (take_all n xs (omega arith))
-]
+module _ {W A : Type 0} (took : W → List ℕ → W → Type 0) (text : A → List ℕ) where
+  -- one more item is written
+  pub put_more : (xs : List A) (x : A) (f g h : Formatter W) → HasWritten took f (each text xs) g → HasWritten took g (text x) h → HasWritten took f (each text (xs ++ x ∷ [])) h
+  put_more xs x f g h p q =
+      has_written_of_eq took f _ _ h (sym (each_append text xs (x ∷ []) ∙ ap (λ (l : List ℕ). each text xs ++ l) (append-nil (text x)))) (has_written_append took f _ g _ h p q)
 
 -- a count and the first entries of an ordering
-pub settled_text : (tested n count : ℕ) (ordering : List ℕ) → count ≡ min n 8 → length ordering ≡ 8 →
-    after_space (decimal tested) ++ each (λ d. after_space (decimal d)) (take (count - 0) ordering) ≡ each after_space (decimal tested ∷ map decimal (take n ordering))
-settled_text tested n count ordering e l =
-    ap (λ (ds : List ℕ). after_space (decimal tested) ++ each (λ d. after_space (decimal d)) ds) (ap (λ k. take (k - 0) ordering) e ∙ first_of_eight ordering n l) ∙
-    ap (λ (t : List ℕ). after_space (decimal tested) ++ t) (sym (each_map after_space decimal (take n ordering)))
+pub settled_text : (tested n : ℕ) (ordering : List ℕ) (shown : List (Bor ℕ)) → map (λ v. v.now) shown ≡ take n ordering →
+    after_space (decimal tested) ++ each (λ (v : Bor ℕ). after_space (decimal v.now)) shown ≡ each after_space (decimal tested ∷ map decimal (take n ordering))
+settled_text tested n ordering shown e =
+    ap (λ (l : List ℕ). after_space (decimal tested) ++ l)
+    (sym (each_map (λ d. after_space (decimal d)) (λ (v : Bor ℕ). v.now) shown) ∙ ap (each (λ d. after_space (decimal d))) e ∙ sym (each_map after_space decimal (take n ordering)))
 
 regroup : (sheet space n kind newline lines last end : List ℕ) →
     (sheet ++ space) ++ (n ++ (space ++ (kind ++ (newline ++ (lines ++ ((last ++ space) ++ (end ++ newline))))))) ≡

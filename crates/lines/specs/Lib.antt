@@ -2,3 +2,4 @@ pub mod Numbers
 pub mod Words
 pub mod Line
 pub mod Report
+pub mod Written

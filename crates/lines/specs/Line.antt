@@ -1,10 +1,11 @@
 -- The words of a command's line. Assumes nothing.
-use Rattle.std.specs.Prelude.{ℕ, List, [], ◌∷◌, map, take, codes, decimal}
+use Rattle.std.specs.Prelude.{ℕ, List, [], ◌∷◌, map, take, codes, decimal, Ok, Err, Result}
 use Rattle.lines.specs.declared.faults.Cause.{Cause}
+use Rattle.lines.specs.declared.faults.Fault.{Fault}
 use Rattle.lines.specs.declared.lines.Told.{Told}
 use Rattle.lines.specs.declared.lines.Told.TheVariants.{Nothing, Place, Complete, Short, Settled}
+use Rattle.lines.specs.declared.lines.Granted.{Granted}
 use Rattle.lines.specs.declared.lines.Line.{Line}
-use Rattle.lines.specs.declared.lines.Line.TheVariants.{Granted, Faulty}
 use Rattle.lines.specs.Numbers.{cause_number, cause_values}
 use Rattle.lines.specs.Words.{spaced, hex}
 
@@ -21,9 +22,15 @@ abbrev pub cause_words : Cause → List (List ℕ)
 cause_words c = decimal (cause_number c) ∷ map decimal (cause_values c)
 
 -- the place, the code in hexadecimal, `ok` or `no`, and the values
-abbrev pub words : Line → List (List ℕ)
-words (Granted place code told) = decimal place ∷ hex code ∷ codes "ok" ∷ told_words told
-words (Faulty fault) = decimal fault.place ∷ hex fault.code ∷ codes "no" ∷ cause_words fault.cause
+abbrev pub granted_words : Granted → List (List ℕ)
+granted_words g = decimal g.place ∷ hex g.code ∷ codes "ok" ∷ told_words g.told
+
+abbrev pub fault_words : Fault → List (List ℕ)
+fault_words f = decimal f.place ∷ hex f.code ∷ codes "no" ∷ cause_words f.cause
+
+abbrev pub words : Result Granted Fault → List (List ℕ)
+words (Ok granted) = granted_words granted
+words (Err fault) = fault_words fault
 
 abbrev pub line_text : Line → List ℕ
-line_text l = spaced (words l)
+line_text l = spaced (words l.0)

@@ -2,6 +2,8 @@
 use Rattle.std.specs.Prelude.{ℕ, List, [], ◌∷◌, ◌++◌, map, vec_items, codes, decimal}
 use Rattle.lines.specs.declared.reports.BadStart.{BadStart}
 use Rattle.lines.specs.declared.reports.BadStart.TheVariants.{CutShort, NoSuchKind, VariableCount}
+use Rattle.lines.specs.declared.reports.Kind.{Kind}
+use Rattle.lines.specs.declared.reports.Kind.TheVariants.{PlainTerms, Derivatives}
 use Rattle.lines.specs.declared.reports.Report.{Report}
 use Rattle.lines.specs.declared.reports.Report.TheVariants.{TooLong, NoLog, Log}
 use Rattle.lines.specs.Line.{line_text}
@@ -12,11 +14,16 @@ start_number CutShort = 2
 start_number NoSuchKind = 4
 start_number VariableCount = 5
 
+-- the byte that says a kind
+abbrev pub kind_number : Kind → ℕ
+kind_number PlainTerms = 0
+kind_number Derivatives = 1
+
 abbrev pub report_lines : Report → List (List ℕ)
 report_lines TooLong = codes "too long" ∷ []
 report_lines (NoLog cause) = spaced (codes "no" ∷ decimal (start_number cause) ∷ []) ∷ []
 report_lines (Log variables kind lines end) =
-    spaced (codes "sheet" ∷ decimal variables ∷ decimal kind ∷ []) ∷
+    spaced (codes "sheet" ∷ decimal variables ∷ decimal (kind_number kind) ∷ []) ∷
     (map line_text (vec_items lines) ++ (spaced (codes "end" ∷ decimal end ∷ []) ∷ []))
 
 -- every line, ended

@@ -1,11 +1,11 @@
 // The whole output of the log program.
-ghost use Rattle.std.specs.Prelude.{◌≡◌, IfOk, Some, string_bytes};
+ghost use Rattle.std.specs.Prelude.{◌≡◌, ◌<◌, MatchResult, Some};
 ghost use Rattle.lines.specs.Words.{each, ended};
 ghost use Rattle.lines.specs.Line.{line_text};
-ghost use Rattle.lines.specs.Report.{start_number, report_text};
+ghost use Rattle.lines.specs.Report.{start_number, kind_number, report_text};
+ghost use Rattle.lines.specs.declared.reports.BadStart.TheVariants.{NoSuchKind};
 
 use crate::lines::*;
-use std::alloc::{AllocError, Global};
 use std::fmt;
 
 // Why an input has no log.
@@ -19,12 +19,12 @@ pub enum BadStart {
     VariableCount,
 }
 
-impl BadStart {
-    // The number by which it is told.
-    pub fn number(&self) -> u8
-        ensures { result ≡ start_number self.now }
-    {
-        match self {
+// The number by which it is told.
+impl From<BadStart> for u8 {
+    ghost from_gives = { λ b n. n ≡ start_number b };
+
+    fn from(bad: BadStart) -> u8 {
+        match bad {
             BadStart::CutShort => 2,
             BadStart::NoSuchKind => 4,
             BadStart::VariableCount => 5,
@@ -32,7 +32,41 @@ impl BadStart {
     }
 }
 
-// What there is to print of an input.
+// The kind of a log's elements.
+#[derive(Clone, Copy, PartialEq, Eq, Debug)]
+pub enum Kind {
+    PlainTerms,
+    Derivatives,
+}
+
+// The kind that a kind byte says.
+impl TryFrom<u8> for Kind {
+    type Error = BadStart;
+
+    ghost try_from_gives = { λ b r. MatchResult r (λ k. kind_number k ≡ b) (λ e. (e ≡ NoSuchKind) × (1 < b)) };
+
+    fn try_from(byte: u8) -> Result<Kind, BadStart> {
+        match byte {
+            0 => Ok(Kind::PlainTerms),
+            1 => Ok(Kind::Derivatives),
+            _ => Err(BadStart::NoSuchKind),
+        }
+    }
+}
+
+// The kind byte that says it.
+impl From<Kind> for u8 {
+    ghost from_gives = { λ k n. n ≡ kind_number k };
+
+    fn from(kind: Kind) -> u8 {
+        match kind {
+            Kind::PlainTerms => 0,
+            Kind::Derivatives => 1,
+        }
+    }
+}
+
+// What there is to print of an input. It is no Result: each case is text to print, none is an error to its caller, and a Result cannot have a Display of its own.
 #[derive(Drop)]
 pub enum Report {
     TooLong,
@@ -40,7 +74,7 @@ pub enum Report {
     // The line of each command, and the place after the last whole one.
     Log {
         variables: u8,
-        kind: u8,
+        kind: Kind,
         lines: Vec<Line>,
         end: usize,
     },
@@ -69,7 +103,7 @@ impl fmt::Display for Report {
         match self {
             Report::TooLong => writeln!(f, "too long"),
             Report::NoLog(cause) => {
-                let number = cause.number();
+                let number = u8::from(*cause);
                 writeln!(f, "no {number}")
             }
             Report::Log {
@@ -78,16 +112,9 @@ impl fmt::Display for Report {
                 lines,
                 end,
             } => {
-                let lines = Ended(lines.as_slice());
+                let (kind, lines) = (u8::from(*kind), Ended(lines.as_slice()));
                 writeln!(f, "sheet {variables} {kind}\n{lines}end {end}")
             }
         }
     }
-}
-
-// The text of a report.
-pub fn report_text(heap: Global, report: &Report) -> Result<String, AllocError>
-    ensures { IfOk result (λ text. string_bytes text ≡ report_text report.now) }
-{
-    format!(in heap; "{report}")
 }
