@@ -1,6 +1,7 @@
 -- The log of a sheet that was opened for it. Assumes nothing.
-use Rattle.std.proofs.Common.{◌≡◌, ℕ, ◌-◌, ◌≤◌, Bool, List, [], ◌∷◌, length, get_or, take, drop, IfOk, Ok, Err, vec_len, Result, sym, refl, ap, ◌∙◌, subst, arith}
+use Rattle.std.proofs.Common.{◌≡◌, ℕ, ◌-◌, ◌≤◌, Bool, ◌&&◌, eqb, leb, List, [], ◌∷◌, length, get_or, take, drop, IfOk, Ok, Err, vec_len, Result, sym, refl, ap, ◌∙◌, subst, arith}
 use Rattle.std.proofs.lemmas.List.{take_all}
+use Rattle.std.proofs.Math.Path.{fun_ext}
 use Rattle.elements.specs.Element.{Shown}
 use Rattle.orderings.specs.Order.{VariableCount}
 use Rattle.sheets.specs.declared.parts.Parts.{Parts}
@@ -28,6 +29,13 @@ pub two_bytes : (input : List ℕ) → 2 ≤ length input → input ≡ get_or i
 two_bytes [] l = absurd (omega arith)
 two_bytes (x ∷ []) l = absurd (omega arith)
 two_bytes (x ∷ y ∷ ys) l = ap (λ (r : List ℕ). x ∷ y ∷ r) (sym (take_all (length (x ∷ y ∷ ys) - 2) ys (omega arith)))
+
+-- the families of plain terms: 0 and nothing else
+plain_family : (f : ℕ) → leb 0 f && leb f 0 ≡ eqb f 0
+plain_family f = grind arith
+
+pub plain_families : ◌≡◌ {A = ℕ → Bool} (λ f. leb 0 f && leb f 0) (λ f. eqb f 0)
+plain_families = fun_ext plain_family
 
 pub reported : {X : Type 0} (admits : ℕ → Bool) (input : List ℕ) (kind : ℕ) (r : Result Report X) → 2 ≤ length input → length input ≤ 65536 → get_or input 1 0 ≡ kind → Kind kind admits →
     IfOk r (ReportsKind admits (get_or input 0 0) kind (from_third input)) → IfOk r (Reports input)

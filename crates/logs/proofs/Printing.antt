@@ -2,35 +2,34 @@
 use Rattle.std.proofs.Common.{◌≡◌, ℕ, ◌-◌, Bool, List, [], ◌∷◌, get_or, Some, None, Ok, Err, codes, decimal, Option, sym, refl, ap, ◌∙◌, arith}
 use Rattle.std.specs.Option.{option_map}
 use Rattle.elements.specs.Element.{Shown}
-use Rattle.orderings.specs.Answer.{Answer, granted, refused}
+use Rattle.orderings.specs.Answer.{Answer, refused}
 use Rattle.divisions.specs.Laws.{Meaning}
 use Rattle.divisions.specs.declared.Janet.{Janet}
 use Rattle.divisions.specs.declared.JanetLike.{JanetLike}
 use Rattle.divisions.specs.declared.OneOf.{OneOf}
 use Rattle.sheets.specs.Book.{Book, Call, verdict, weigh, settle}
-use Rattle.runs.specs.declared.requests.Reply.{Reply}
+use Rattle.runs.specs.declared.requests.Grant.{Grant}
 use Rattle.runs.specs.declared.requests.Request.{Request}
 use Rattle.runs.specs.declared.requests.Sheet.{Sheet}
-use Rattle.runs.specs.Replies.{state_of, call_of, answer_of, Form, form_of, asked_form, done, Stepped}
+use Rattle.runs.specs.Replies.{Reply, state_of, call_of, grant_told, grant_form, answer_of, Form, form_of, asked_form, done, Stepped}
 use Rattle.lines.specs.declared.faults.Untaken.{Untaken}
 use Rattle.lines.specs.declared.faults.Untaken.TheVariants.{WrongState, NoSuchDivision}
 use Rattle.lines.specs.declared.faults.Cause.TheVariants.{Session}
 use Rattle.lines.specs.declared.lines.Told.{Told}
 use Rattle.lines.specs.declared.lines.Line.{Line}
-use Rattle.lines.specs.declared.lines.Line.TheVariants.{Granted, Faulty}
-use Rattle.lines.specs.Line.{told_words, line_text}
+use Rattle.lines.specs.Line.{told_words, granted_words, fault_words, line_text}
 use Rattle.lines.specs.Words.{spaced, hex}
 use Rattle.logs.specs.Session.{Calls, inserts, withdraws, arranges, judges, weighs, settles, locates, reopens, Commanded, untaken, undivided, called, entry, numbered_meaning}
 use Rattle.logs.specs.Told.{forms, values_words, entry_text, Decides, Performs}
 
--- a granted reply of a form, with its values
-pub granted_line : {E : Type 0} (shown : E → Shown) (place code n : ℕ) (reply k : Reply E) (told : Told) (f : Form) (vs : List ℕ) → reply ≡ k → form_of k ≡ Some f → answer_of shown k ≡ granted vs →
-    told_words told ≡ values_words f n vs → ((g : Form) → form_of reply ≡ Some g → get_or forms (code - 1) done ≡ g) →
-    line_text (Granted place code told) ≡ entry_text n (entry place code (answer_of shown reply))
-granted_line shown place code n reply k told f vs same form answer words asked =
-    let fits : get_or forms (code - 1) done ≡ f = asked f (ap form_of same ∙ form) in
-    ap (λ (ws : List (List ℕ)). spaced (decimal place ∷ hex code ∷ codes "ok" ∷ ws)) (words ∙ sym (ap (λ (x : Form). values_words x n vs) fits)) ∙
-    ap (λ (a : Answer). entry_text n (entry place code a)) (sym (ap (answer_of shown) same ∙ answer))
+-- the line of a granted reply, whose form is that of its code
+pub granted_line : {E : Type 0} (shown : E → Shown) (place code n : ℕ) (reply : Reply E) (grant : Grant E) (told : Told) → reply ≡ Ok grant →
+    told_words told ≡ values_words (grant_form grant) n (grant_told shown grant) → ((f : Form) → form_of reply ≡ Some f → get_or forms (code - 1) done ≡ f) →
+    spaced (granted_words (record { place = place; code = code; told = told })) ≡ entry_text n (entry place code (answer_of shown reply))
+granted_line shown place code n reply grant told same words asked =
+    let fits : get_or forms (code - 1) done ≡ grant_form grant = asked (grant_form grant) (ap form_of same) in
+    ap (λ (ws : List (List ℕ)). spaced (decimal place ∷ hex code ∷ codes "ok" ∷ ws)) (words ∙ sym (ap (λ (x : Form). values_words x n (grant_told shown grant)) fits)) ∙
+    ap (λ (a : Answer). entry_text n (entry place code a)) (sym (ap (answer_of shown) same))
 
 -- the form of a code is that of the call which it makes
 pub the_same : {X : Type 0} {x y : X} → Some x ≡ Some y → x ≡ y
@@ -55,7 +54,7 @@ form_of_code code operands o call reopens e = ap asked_form (the_same e)
 
 -- what the session does not take
 pub faulty_line : {E : Type 0} (shown : E → Shown) (b : Book) (n place code seen : ℕ) (operands : List ℕ) (why : Untaken) → seen ≡ code → Decides shown b.state code operands (Err why) →
-    (answer : Answer) × Commanded b code operands answer b × (line_text (Faulty (record { place = place; code = seen; cause = Session why })) ≡ entry_text n (entry place code answer))
+    (answer : Answer) × Commanded b code operands answer b × (spaced (fault_words (record { place = place; code = seen; cause = Session why })) ≡ entry_text n (entry place code answer))
 faulty_line shown b n place code seen operands WrongState e d = (refused 3 [], untaken d, ap (λ (c : ℕ). spaced (decimal place ∷ hex c ∷ codes "no" ∷ decimal 3 ∷ [])) e)
 faulty_line shown b n place code seen operands NoSuchDivision e d = (refused 4 [], undivided d.0 d.1, ap (λ (c : ℕ). spaced (decimal place ∷ hex c ∷ codes "no" ∷ decimal 4 ∷ [])) e)
 

@@ -1,6 +1,6 @@
 // What there is to print of an input: a count of variables, a kind, and a log.
-ghost use Rattle.std.specs.Prelude.{◌≡◌, ◌+◌, ◌≤◌, ◌∷◌, length, IfOk, string_bytes};
-ghost use Rattle.lines.specs.Report.{report_text};
+ghost use Rattle.std.specs.Prelude.{◌≤◌, length, IfOk, string_bytes};
+ghost use Rattle.lines.specs.Report.{kind_number};
 ghost use Rattle.logs.specs.Input.{Reports, ReportsKind, Prints};
 ghost use Rattle.logs.specs.Laws.{EveryLogIsARunUnderTheLaw, AnInputHasOneOutput};
 
@@ -15,16 +15,15 @@ use std::alloc::{AllocError, Global};
 // The most bytes that an input may have.
 pub const MOST_BYTES: usize = 65_536;
 
-// The report on a log for a sheet of 64 places, of a kind and so many variables. The log is the last part of an input of so many bytes.
+// The report on a log for a sheet of 64 places, of a kind and so many variables.
 fn report_kind<E: Element>(
     heap: Global,
     variables: u8,
-    kind: u8,
-    bytes: usize,
+    kind: Kind,
     log: &[u8],
 ) -> Result<Report, AllocError>
-    requires { length log.now + 2 ≡ bytes }
-    ensures { IfOk result (ReportsKind E.Element.admitted variables kind log.now) }
+    requires { length log.now ≤ 65534 }
+    ensures { IfOk result (ReportsKind E.Element.admitted variables (kind_number kind) log.now) }
 {
     let table = vec![in heap; blank::<E>(); 64]?;
     let order = vec![in heap; 0; 8]?;
@@ -36,7 +35,7 @@ fn report_kind<E: Element>(
     });
     match opened {
         Ok(sheet) => {
-            let (lines, end) = lines_of(heap, Sheet::Open(sheet), variables, bytes, log)?;
+            let (lines, end) = lines_of(heap, Sheet::Open(sheet), variables, log)?;
             Ok(Report::Log {
                 variables,
                 kind,
@@ -52,17 +51,16 @@ fn report_kind<E: Element>(
 pub fn report(heap: Global, input: &[u8]) -> Result<Report, AllocError>
     ensures { IfOk result (Reports input.now) }
 {
-    let bytes = input.len();
-    if bytes > MOST_BYTES {
+    if input.len() > MOST_BYTES {
         return Ok(Report::TooLong);
     }
     let [variables, kind, log @ ..] = input else {
         return Ok(Report::NoLog(BadStart::CutShort));
     };
-    match *kind {
-        0 => report_kind::<PlainTerm>(heap, *variables, 0, bytes, log),
-        1 => report_kind::<Derivative>(heap, *variables, 1, bytes, log),
-        _ => Ok(Report::NoLog(BadStart::NoSuchKind)),
+    match Kind::try_from(*kind) {
+        Ok(kind @ Kind::PlainTerms) => report_kind::<PlainTerm>(heap, *variables, kind, log),
+        Ok(kind @ Kind::Derivatives) => report_kind::<Derivative>(heap, *variables, kind, log),
+        Err(bad) => Ok(Report::NoLog(bad)),
     }
 }
 
@@ -72,6 +70,5 @@ pub fn output(heap: Global, input: &[u8]) -> Result<String, AllocError>
     ensures law { EveryLogIsARunUnderTheLaw }
     ensures once { AnInputHasOneOutput }
 {
-    let told = report(heap, input)?;
-    report_text(heap, &told)
+    report(heap, input)?.to_string(heap)
 }

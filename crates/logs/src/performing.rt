@@ -1,10 +1,10 @@
 // One command of a log on a sheet, and its line.
 ghost use Rattle.std.specs.Prelude.{◌≡◌, ◌-◌, Some, slice_index_or};
 ghost use Rattle.commands.specs.Read.{code_of, operands_of};
-ghost use Rattle.runs.specs.Replies.{answer_of, Form, form_of, done};
-ghost use Rattle.lines.specs.Line.{line_text};
+ghost use Rattle.runs.specs.Replies.{grant_told, grant_form, answer_of, Form, form_of, done};
+ghost use Rattle.lines.specs.Line.{told_words, line_text};
 ghost use Rattle.logs.specs.Session.{entry};
-ghost use Rattle.logs.specs.Told.{forms, entry_text, Performs};
+ghost use Rattle.logs.specs.Told.{forms, values_words, entry_text, Performs};
 
 use crate::sessions::request_of;
 use commands::Command;
@@ -16,50 +16,44 @@ use runs::requests::*;
 use runs::stepping::step;
 use sheets::parts::*;
 
-// The line of a command that was answered so, on a sheet of so many variables. Bar and limit are no commands.
+// What a grant tells, on a sheet of so many variables. Bar and limit are no commands.
+fn told_of<E: Element>(variables: u8, grant: &Grant<E>) -> Told
+    ensures { told_words result ≡ values_words (grant_form grant.now) variables (grant_told E.Element.shown grant.now) }
+{
+    match grant {
+        Grant::Done | Grant::Bar(_) | Grant::Limit(_) => Told::Nothing,
+        Grant::Place(row) => Told::Place(*row),
+        Grant::Verdict(verdict) if verdict.complete => Told::Complete,
+        Grant::Verdict(verdict) => Told::Short {
+            place: verdict.place,
+            variable: verdict.variable,
+            power: verdict.power,
+        },
+        Grant::Settled(served) => Told::Settled {
+            tested: served.tested,
+            variables,
+            ordering: served.ordering,
+        },
+    }
+}
+
+// The line of a command that was answered so, on a sheet of so many variables.
 pub(crate) fn line_of<E: Element>(place: usize, code: u8, variables: u8, reply: Reply<E>) -> Line
     ensures { ((f : Form) → form_of reply ≡ Some f → slice_index_or forms (code - 1) done ≡ f) → line_text result ≡ entry_text variables (entry place code (answer_of E.Element.shown reply)) }
 {
-    let told = match reply {
-        Reply::Done => Told::Nothing,
-        Reply::Place(row) => Told::Place(row),
-        Reply::Verdict(verdict) => {
-            if verdict.complete {
-                Told::Complete
-            } else {
-                Told::Short {
-                    place: verdict.place,
-                    variable: verdict.variable,
-                    power: verdict.power,
-                }
-            }
+    Line(match reply {
+        Ok(grant) => {
+            let told = told_of(variables, &grant);
+            Ok(Granted { place, code, told })
         }
-        Reply::Settled(served) => {
-            let ordering = served.ordering;
-            Told::Settled {
-                tested: served.tested,
-                variables,
-                ordering,
-            }
+        Err(why) => {
+            let cause = match why {
+                NotGranted::NotTaken => Untaken::WrongState.into(),
+                NotGranted::Refused(refusal) => refusal.into(),
+            };
+            Err(Fault { place, code, cause })
         }
-        Reply::Bar(_) => Told::Nothing,
-        Reply::Limit(_) => Told::Nothing,
-        Reply::NotTaken => {
-            return Line::Faulty(Fault {
-                place,
-                code,
-                cause: Cause::Session(Untaken::WrongState),
-            });
-        }
-        Reply::Refused(why) => {
-            return Line::Faulty(Fault {
-                place,
-                code,
-                cause: Cause::Sheet(why),
-            });
-        }
-    };
-    Line::Granted { place, code, told }
+    })
 }
 
 // Performs a command that stands at a place, and gives its line.
@@ -71,15 +65,15 @@ pub(crate) fn perform<E: Element>(
 ) -> (Sheet<E, OneOf<Janet, JanetLike>>, Line)
     ensures { Performs E.Element.admitted E.Element.shown sheet variables place (code_of command.now) (operands_of command.now) result.0 result.1 }
 {
-    let code = command.code();
+    let code = u8::from(*command);
     match request_of(&sheet, command) {
         Ok(request) => {
             let (next, reply) = step(sheet, &request);
             (next, line_of(place, code, variables, reply))
         }
         Err(untaken) => {
-            let cause = Cause::Session(untaken);
-            (sheet, Line::Faulty(Fault { place, code, cause }))
+            let cause = untaken.into();
+            (sheet, Line(Err(Fault { place, code, cause })))
         }
     }
 }

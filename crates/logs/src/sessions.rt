@@ -1,7 +1,10 @@
 // The session: its state and a command together decide what is done.
+ghost use Rattle.std.specs.Prelude.{◌≡◌, Some, None, MatchResult};
 ghost use Rattle.elements.specs.Element.{Shown};
+ghost use Rattle.divisions.specs.Janet.{IsNumbered};
 ghost use Rattle.commands.specs.Read.{code_of, operands_of};
 ghost use Rattle.runs.specs.Replies.{state_of};
+ghost use Rattle.lines.specs.declared.faults.Untaken.TheVariants.{NoSuchDivision};
 ghost use Rattle.logs.specs.Session.{numbered_meaning};
 ghost use Rattle.logs.specs.Told.{Decides};
 
@@ -10,6 +13,13 @@ use divisions::{Janet, JanetLike, OneOf, numbered};
 use elements::Element;
 use lines::faults::*;
 use runs::requests::*;
+
+// The division that a division byte says.
+fn division_of(byte: &u8) -> Result<OneOf<Janet, JanetLike>, Untaken>
+    ensures { MatchResult result (λ d. IsNumbered byte.now (Some (numbered_meaning d))) (λ why. (why ≡ NoSuchDivision) × IsNumbered byte.now None) }
+{
+    numbered(*byte).ok_or(Untaken::NoSuchDivision)
+}
 
 // The call that a command makes, or why the session does not take it.
 pub fn request_of<'a, E: Element>(
@@ -22,27 +32,22 @@ pub fn request_of<'a, E: Element>(
         (Sheet::Open(_), Command::Insert(element)) => Ok(Request::Insert(element_of(element))),
         (Sheet::Open(_), Command::Withdraw(element)) => Ok(Request::Withdraw(element_of(element))),
         (Sheet::Open(_), Command::Arrange(order)) => Ok(Request::Arrange(order)),
-        (Sheet::Open(_), Command::Verdict(division)) => match numbered(**division) {
-            Some(d) => Ok(Request::Verdict(d)),
-            None => Err(Untaken::NoSuchDivision),
-        },
-        (Sheet::Open(_), Command::Weigh { division, order }) => match numbered(**division) {
-            Some(d) => Ok(Request::Weigh(d, order)),
-            None => Err(Untaken::NoSuchDivision),
-        },
-        (Sheet::Open(_), Command::Settle(division)) => match numbered(**division) {
-            Some(d) => Ok(Request::Settle(d)),
-            None => Err(Untaken::NoSuchDivision),
-        },
+        (Sheet::Open(_), Command::Verdict(byte)) => Ok(Request::Verdict(division_of(byte)?)),
+        (Sheet::Open(_), Command::Weigh { division, order }) => {
+            Ok(Request::Weigh(division_of(division)?, order))
+        }
+        (Sheet::Open(_), Command::Settle(byte)) => Ok(Request::Settle(division_of(byte)?)),
         (Sheet::Settled(_), Command::Locate(element)) => Ok(Request::Locate(element_of(element))),
         (Sheet::Settled(_), Command::Reopen) => Ok(Request::Reopen),
-        (Sheet::Open(_), Command::Locate(_)) => Err(Untaken::WrongState),
-        (Sheet::Open(_), Command::Reopen) => Err(Untaken::WrongState),
-        (Sheet::Settled(_), Command::Insert(_)) => Err(Untaken::WrongState),
-        (Sheet::Settled(_), Command::Withdraw(_)) => Err(Untaken::WrongState),
-        (Sheet::Settled(_), Command::Arrange(_)) => Err(Untaken::WrongState),
-        (Sheet::Settled(_), Command::Verdict(_)) => Err(Untaken::WrongState),
-        (Sheet::Settled(_), Command::Weigh { .. }) => Err(Untaken::WrongState),
-        (Sheet::Settled(_), Command::Settle(_)) => Err(Untaken::WrongState),
+        (Sheet::Open(_), Command::Locate(_) | Command::Reopen) => Err(Untaken::WrongState),
+        (
+            Sheet::Settled(_),
+            Command::Insert(_)
+            | Command::Withdraw(_)
+            | Command::Arrange(_)
+            | Command::Verdict(_)
+            | Command::Weigh { .. }
+            | Command::Settle(_),
+        ) => Err(Untaken::WrongState),
     }
 }

@@ -1,21 +1,26 @@
-use Rattle.std.proofs.Common.{arith, ltb-false, ltb-true}
-use Rattle.logs.specs.Input.{too_long, cut_short, no_kind, terms, derivatives}
-use Rattle.logs.proofs.Opened.{two_bytes, reported}
+use Rattle.std.proofs.Common.{arith, ltb-true, ap, sym, subst, ◌∙◌}
+use Rattle.lines.specs.Report.{kind_number}
+use Rattle.logs.specs.Input.{Kind, too_long, cut_short, no_kind, terms, derivatives}
+use Rattle.logs.proofs.Opened.{plain_families, two_bytes, reported}
 use Rattle.logs.proofs.inputs.report.Goals as goal
 
-pub returns-then-bytes-gt-MOST_BYTES : goal.returns-then-bytes-gt-MOST_BYTES
-returns-then-bytes-gt-MOST_BYTES c = too_long (omega (arith, c.if-bytes-gt-MOST_BYTES.true))
+pub returns-then-input-gt-MOST_BYTES : goal.returns-then-input-gt-MOST_BYTES
+returns-then-input-gt-MOST_BYTES c = too_long (omega (arith, c.if-input-gt-MOST_BYTES.true))
 
 pub returns-in_default : goal.returns-in_default
 returns-in_default c = cut_short (omega (arith, ltb-true))
 
-pub returns-in-0 : goal.returns-in-0
-returns-in-0 c =
-    reported _ c.args.input.now 0 c.report_kind.result (omega (arith, ltb-false)) c.if-bytes-gt-MOST_BYTES.false c.in-0.is terms c.report_kind.ensures
+pub returns-in-Ok-PlainTerms : goal.returns-in-Ok-PlainTerms
+returns-in-Ok-PlainTerms c =
+    reported _ c.args.input.now 0 c.report_kind.result c.in-len2-up.len_at_least c.if-input-gt-MOST_BYTES.false
+    (sym (c.in-Ok-PlainTerms.ensures) ∙ ap kind_number c.in-Ok-PlainTerms.kind-is) (subst (Kind 0) (sym plain_families) terms) c.report_kind.ensures
 
-pub returns-in-1 : goal.returns-in-1
-returns-in-1 c =
-    reported _ c.args.input.now 1 c.report_kind-in-1.result (omega (arith, ltb-false)) c.if-bytes-gt-MOST_BYTES.false c.in-1.is derivatives c.report_kind-in-1.ensures
+pub returns-in-Ok-Derivatives : goal.returns-in-Ok-Derivatives
+returns-in-Ok-Derivatives c =
+    reported _ c.args.input.now 1 c.report_kind-in-Ok-Derivatives.result c.in-len2-up.len_at_least c.if-input-gt-MOST_BYTES.false
+    (sym (c.in-Ok-Derivatives.ensures) ∙ ap kind_number c.in-Ok-Derivatives.kind-is) derivatives c.report_kind-in-Ok-Derivatives.ensures
 
-pub returns-in_default-kind : goal.returns-in_default-kind
-returns-in_default-kind c = no_kind c.if-bytes-gt-MOST_BYTES.false (two_bytes c.args.input.now (omega (arith, ltb-false))) (λ e. omega arith) (λ e. omega arith)
+pub returns-in-Err : goal.returns-in-Err
+returns-in-Err c =
+    let none = c.in-Err.ensures in
+    rw none.0 (no_kind c.if-input-gt-MOST_BYTES.false (two_bytes c.args.input.now c.in-len2-up.len_at_least) (λ e. omega (arith, none.1)) (λ e. omega (arith, none.1)))

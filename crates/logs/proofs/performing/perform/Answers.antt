@@ -6,13 +6,13 @@ use Rattle.logs.proofs.performing.perform.Goals as goal
 
 pub returns-in-Ok : goal.returns-in-Ok
 returns-in-Ok g c =
-    called_line g.E.Element.admitted g.E.Element.shown c.args.sheet c.step-next.result.0 c.args.variables c.args.place (code_of c.args.command.now) c.code-code.result
-    (operands_of c.args.command.now) c.in-Ok.request c.step-next.result.1 c.line_of.result c.code-code.ensures c.in-Ok.ensures c.step-next.ensures c.line_of.ensures
+    called_line g.E.Element.admitted g.E.Element.shown c.args.sheet c.step-next.result.0 c.args.variables c.args.place (code_of c.args.command.now) c.from-code.result
+    (operands_of c.args.command.now) c.in-Ok.request c.step-next.result.1 c.line_of.result c.from-code.ensures c.in-Ok.ensures c.step-next.ensures c.line_of.ensures
 
 pub returns-in-Err : goal.returns-in-Err
 returns-in-Err g c =
     record {
       stands = λ st. st;
-      told = λ _. faulty_line g.E.Element.shown (book_of g.E.Element.admitted g.E.Element.shown numbered_meaning c.args.sheet) c.args.variables c.args.place
-          (code_of c.args.command.now) c.code-code.result (operands_of c.args.command.now) c.in-Err.untaken c.code-code.ensures c.in-Err.ensures;
+      told = λ _. rw c.into-cause.ensures (faulty_line g.E.Element.shown (book_of g.E.Element.admitted g.E.Element.shown numbered_meaning c.args.sheet) c.args.variables c.args.place
+          (code_of c.args.command.now) c.from-code.result (operands_of c.args.command.now) c.in-Err.untaken c.from-code.ensures c.in-Err.ensures);
     }
