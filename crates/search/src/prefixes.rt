@@ -44,6 +44,7 @@ impl Prefix {
     }
 
     // The smallest variable above `from` that is not an entry.
+    #[tactic(auto, using(crate::proofs::Entries::above_yes, crate::proofs::Entries::above_no, crate::proofs::Entries::above_none))]
     pub(crate) fn next_unused(&self, from: u8) -> Option<u8>
         ensures { MatchOption result (unused_above self.now.n (take self.now.len self.now.entries) from ≡ []) (λ x. unused_above self.now.n (take self.now.len self.now.entries) from ≡ x ∷ unused_above self.now.n (take self.now.len self.now.entries) x) }
     {
