@@ -1,5 +1,5 @@
 // The limits of a prefix's variables, in a table with a column for each of eight variables.
-ghost use Rattle.std.specs.Prelude.{◌≡◌, ◌-◌, ◌≤◌, map, length, take, None};
+ghost use Rattle.std.specs.Prelude.{◌-◌, ◌≤◌, map, length, take, None};
 ghost use Rattle.search.specs.Liveness.{RowsOfSheet};
 ghost use Rattle.search.specs.Columns.{Written, Tabled, Extended};
 

@@ -1,8 +1,8 @@
 // Prefixes of orderings.
-ghost use Rattle.std.specs.Prelude.{◌≡◌, ◌+◌, ◌-◌, ◌≤◌, false, [], ◌∷◌, length, slice_index, take, drop, replicate, slice_set, Decides, MatchOption};
+ghost use Rattle.std.specs.Prelude.{◌≡◌, ◌+◌, ◌-◌, ◌≤◌, false, [], ◌∷◌, slice_index, take, replicate, slice_set, Decides, MatchOption};
 ghost use Rattle.search.specs.Prefixes.{has, unused_above, Entries, padded, completed as completion};
 
-// Distinct ones of n variables, the greatest first, with zeros after them.
+// The first entries of an ordering of n variables: distinct ones of these, the greatest first, with zeros after them.
 #[derive(Clone, Copy)]
 pub(crate) struct Prefix {
     entries: [u8; 8],
