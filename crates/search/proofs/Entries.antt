@@ -1,5 +1,5 @@
 -- Which numbers a prefix has, and the numbers that it lacks. Assumes nothing.
-use Rattle.std.proofs.Common.{◌≡◌, ℕ, zero, suc, ◌+◌, ◌-◌, ◌<◌, ◌≤◌, true, false, cond, not, eqb, List, [], ◌∷◌, ◌++◌, length, get_or, take, refl, ◌∙◌, le_of_suc-le-suc, not-suc-le-zero, add-one, arith, length-take-le, get_or-take, take-suc}
+use Rattle.std.proofs.Common.{◌≡◌, ℕ, zero, suc, ◌+◌, ◌-◌, ◌<◌, ◌≤◌, true, false, cond, not, eqb, List, [], ◌∷◌, ◌++◌, length, get_or, refl, ◌∙◌, le_of_suc-le-suc, not-suc-le-zero, add-one, arith}
 use Rattle.std.proofs.lemmas.Bool.{eq-eqb, ne_eqb, or_left, or_right, or_from, or_parts, cond-true, cond-false, not_from_true, not_from_false}
 use Rattle.search.specs.Prefixes.{has, unused_above}
 
@@ -13,19 +13,12 @@ has_snoc [] y x h k = or_from (eqb y x) false (ne_eqb y x k) refl
 has_snoc (z ∷ zs) y x h k =
     let p = or_parts (eqb z x) (has x zs) h in or_from (eqb z x) (has x (zs ++ (y ∷ []))) p.0 (has_snoc zs y x p.1 k)
 
--- one entry more
-pub has_more : (a : List ℕ) (i x : ℕ) → i < length a → has x (take i a) ≡ false → (get_or a i 0 ≡ x → ⊥) → has x (take (i + 1) a) ≡ false
-has_more a i x h e k = rw (add-one, take-suc a i 0) (has_snoc (take i a) (get_or a i 0) x e k)
-
 pub above_none : (n : ℕ) (q : List ℕ) (m : ℕ) → n ≤ m → unused_above n q m ≡ []
 above_none n q m h = let e : n - m ≡ 0 = omega arith in rw e
 
 pub above_more : (n : ℕ) (q : List ℕ) (m : ℕ) → m < n
     → unused_above n q m ≡ cond (not (has (m + 1) q)) ((m + 1) ∷ unused_above n q (m + 1)) (unused_above n q (m + 1))
 above_more n q m h = let e : n - m ≡ suc (n - suc m) = omega arith in rw (e, add-one)
-
-pub has_found : (a : List ℕ) (k i x : ℕ) → i < k → k ≤ length a → get_or a i 0 ≡ x → has x (take k a) ≡ true
-has_found a k i x h l e = has_at (take k a) i x (rw (length-take-le k a) h) (get_or-take k a i 0 h ∙ e)
 
 pub above_yes : (n : ℕ) (q : List ℕ) (m : ℕ) → m < n → has (m + 1) q ≡ false → unused_above n q m ≡ (m + 1) ∷ unused_above n q (m + 1)
 above_yes n q m h e = above_more n q m h ∙ cond-true (not (has (m + 1) q)) _ _ (not_from_false _ e)

@@ -1,6 +1,6 @@
 -- A table of limits while entries come and go, and what it tells of a prefix. Assumes nothing.
-use Rattle.std.proofs.Common.{◌≡◌, ℕ, ◌+◌, ◌<◌, ◌≤◌, Bool, cond, not, eqb, List, [], ◌∷◌, ◌++◌, length, get_or, take, replicate, is_some, Some, None, Decides, Option, sym, ap, ◌∙◌, inl, inr, arith, MatchOption}
-use Rattle.std.proofs.lemmas.List.{take_more, get_or-replicate, get_or_past}
+use Rattle.std.proofs.Common.{◌≡◌, ℕ, ◌<◌, ◌≤◌, Bool, cond, not, eqb, List, [], ◌∷◌, ◌++◌, length, replicate, is_some, Some, None, Decides, Option, sym, ap, ◌∙◌, inl, inr, arith, MatchOption}
+use Rattle.std.proofs.lemmas.List.{get_or-replicate, get_or_past}
 use Rattle.std.proofs.lemmas.Bool.{cases_eq, cases_lt, cases_Bool, eq-eqb, ne_eqb, cond-true, cond-false, not-true, not-false, both_ways}
 use Rattle.std.proofs.lemmas.Bool.Decides.{same_from_decides, Decides-like}
 use Rattle.elements.specs.Element.{Shown}
@@ -12,7 +12,7 @@ use Rattle.search.specs.Prefixes.{has, Entries, Prefix, completed}
 use Rattle.search.specs.Liveness.{RowsOfSheet, prefix_limits, live}
 use Rattle.search.specs.Columns.{Wide, Written, Tabled, Extended}
 use Rattle.search.proofs.Entries.{has_snoc}
-use Rattle.search.proofs.Listed.{has_middle, apart_middle, all_middle, entries_front}
+use Rattle.search.proofs.Listed.{has_middle, apart_middle, entries_front}
 use Rattle.search.proofs.Orders.{count_unused, completed_front}
 use Rattle.search.proofs.Testing.{only_listed, only_kept}
 use Rattle.search.proofs.Deadness.{shortfall_on, live_is_told_by_its_test, on, begun, same_limits, front_more, has_on}
@@ -95,27 +95,19 @@ module _ (m : Meaning) (lawful : Lawful m) (n : ℕ) (rows : List Shown) (s : Ro
         told)
         (live_is_told_by_its_test m n rows s p h)
 
-  -- entry k of a is added: its column is written by the ordering that the longer prefix begins, and r tells whether the table then has a shortfall
-  pub extended : (a : List ℕ) (k : ℕ) (order : List ℕ) (old new : List (List (Option ℕ))) (count : ℕ) (r : Bool) →
-      k < length a → Prefix n (take (k + 1) a) → order ≡ completed n (take (k + 1) a) → length rows ≡ count → Tabled m n rows (take k a) old →
-      Written (λ q. m rows order q (get_or a k 0)) (get_or a k 0) count old new →
-      (Small n rows (limits_of new) → Decides r ((q v d : ℕ) → Shortfall n rows (limits_of new) q v d → ⊥)) →
-      Extended m n rows (take (k + 1) a) r new
-  extended a k order old new count r inside h is long t w told =
-      let x = get_or a k 0 in
-      let more : take (k + 1) a ≡ take k a ++ (x ∷ []) = take_more a k 0 inside in
-      let entries : Entries n (take k a ++ (x ∷ [])) = rw more at h.entries in
-      let order_is : order ≡ completed n (take k a ++ (x ∷ [])) = is ∙ ap (λ xs. completed n xs) more in
-      let tabled : Tabled m n rows (take k a ++ (x ∷ [])) new =
-      tabled_more (take k a) x entries old new t (λ wide. ((w wide).0, λ q v l. rw (← order_is) ((w wide).1 q v (omega arith)))) in
-      let whole : Tabled m n rows (take (k + 1) a) new = rw more tabled in
-      record { told = tabled_live (take (k + 1) a) h new whole r (told (tabled_small (take (k + 1) a) h new whole)); tabled = whole }
-
--- the entry at a place of a prefix is one of n variables
-pub entry_range : (n : ℕ) (a : List ℕ) (k : ℕ) → k < length a → Entries n (take (k + 1) a) → (1 ≤ get_or a k 0) × (get_or a k 0 ≤ n)
-entry_range n a k inside h =
-    let more : take (k + 1) a ≡ take k a ++ (get_or a k 0 ∷ []) = take_more a k 0 inside in
-    all_middle (λ y. (1 ≤ y) × (y ≤ n)) (take k a) (get_or a k 0) [] (rw more at h.range)
+  -- x is added to q: its column is written by the ordering that the longer prefix begins, and r tells whether the table then has a shortfall
+  pub extended : (p q : List ℕ) (x : ℕ) (order : List ℕ) (old new : List (List (Option ℕ))) (count : ℕ) (r : Bool) →
+      p ≡ q ++ (x ∷ []) → Prefix n p → order ≡ completed n p → length rows ≡ count → Tabled m n rows q old →
+      Written (λ c. m rows order c x) x count old new →
+      (Small n rows (limits_of new) → Decides r ((c v d : ℕ) → Shortfall n rows (limits_of new) c v d → ⊥)) →
+      Extended m n rows p r new
+  extended p q x order old new count r more h is long t w told =
+      let entries : Entries n (q ++ (x ∷ [])) = rw more at h.entries in
+      let order_is : order ≡ completed n (q ++ (x ∷ [])) = is ∙ ap (λ xs. completed n xs) more in
+      let tabled : Tabled m n rows (q ++ (x ∷ [])) new =
+      tabled_more q x entries old new t (λ wide. ((w wide).0, λ c v l. rw (← order_is) ((w wide).1 c v (omega arith)))) in
+      let whole : Tabled m n rows p new = rw more tabled in
+      record { told = tabled_live p h new whole r (told (tabled_small p h new whole)); tabled = whole }
 
 module _ (m : Meaning) (lawful : Lawful m) (n : ℕ) (rows : List Shown) (s : RowsOfSheet n rows) where
   -- no entries, no limits
@@ -139,10 +131,3 @@ module _ (m : Meaning) (lawful : Lawful m) (n : ℕ) (rows : List Shown) (s : Ro
 
       limits_start : (q v : ℕ) → limits_of (replicate 64 (replicate 8 None)) q v ≡ None
       limits_start q v = ap (λ xs. limit_in xs v) (row_start q) ∙ none_at v
-
-  -- the last entry is taken off, and its column cleared
-  pub tabled_back : (a : List ℕ) (k x : ℕ) (old new : List (List (Option ℕ))) → k < length a → get_or a k 0 ≡ x → Entries n (take (k + 1) a) →
-      Tabled m n rows (take (k + 1) a) old → Written (λ q. None) x 64 old new → (b : List ℕ) → take k b ≡ take k a → Tabled m n rows (take k b) new
-  tabled_back a k x old new inside e h t w b same =
-      let more : take (k + 1) a ≡ take k a ++ (x ∷ []) = take_more a k 0 inside ∙ ap (λ (y : ℕ). take k a ++ (y ∷ [])) e in
-      rw same (tabled_less m lawful n rows s (take k a) x (rw more at h) old new (rw more at t) w)

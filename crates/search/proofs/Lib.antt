@@ -2,6 +2,7 @@ pub mod Entries
 pub mod Listed
 pub mod Reached
 pub mod Orders
+pub mod Held
 pub mod Filling
 pub mod Testing
 pub mod Deadness

@@ -1,115 +1,176 @@
 -- The steps of the search. Assumes nothing.
-use Rattle.std.proofs.Common.{◌≡◌, ℕ, suc, ◌+◌, ◌<◌, ◌≤◌, Bool, true, false, ◌⊎◌, List, [], ◌∷◌, map, length, get_or, take, set, replicate, Some, None, Option, sym, refl, ap, ◌∙◌, subst, inl, inr, add-one, arith, length-set, get_or-set_same}
+use Rattle.std.proofs.Common.{◌≡◌, ℕ, suc, ◌+◌, ◌-◌, ◌*◌, ◌<◌, ◌≤◌, ◌≢◌, Bool, true, false, List, [], ◌∷◌, ◌++◌, length, get_or, take, set, replicate, Some, None, Option, MatchOption, sym, refl, ap, ◌∙◌, add-one, arith}
 use lib.Seq.{take-set-le}
 use Rattle.std.specs.Option.{option_map}
-use Rattle.std.proofs.lemmas.List.{length-map}
 use Rattle.elements.specs.Element.{Shown}
 use Rattle.divisions.specs.Laws.{Meaning, Lawful}
-use Rattle.search.specs.Prefixes.{unused_above, Entries, padded}
+use Rattle.search.specs.Prefixes.{has, unused_above, padded, completed}
 use Rattle.search.specs.Liveness.{RowsOfSheet, live, answer, tested}
 use Rattle.search.specs.Columns.{Written, Tabled, Extended}
+use Rattle.search.specs.declared.prefixes.Prefix.{Prefix}
 use Rattle.search.proofs.Reached.{literal}
 use Rattle.search.proofs.Deadness.{closed}
-use Rattle.search.proofs.Extending.{tabled_start, tabled_back, entry_range}
-use Rattle.search.proofs.Walk.{Stands, Follows, start, start_follows, popped, popped_follows, asked, dead, dead_follows, deeper, deeper_follows, found_first, found_count, ended_first, ended_count}
+use Rattle.search.proofs.Held.{Held, held, held_last, last_range, taken_more}
+use Rattle.search.proofs.Extending.{tabled_start, tabled_less}
+use Rattle.search.proofs.Walk.{rest, Stands, Follows, start, start_follows, bounded, fresh, entries_p, popped, popped_less, popped_follows, dead, dead_less, dead_follows, deeper, deeper_less, deeper_follows, found_first, found_count, ended_first, ended_count}
 
 -- where the search stands; for rows of a sheet, what is left decides what it finds, and the table has the limits of the prefix
-pub record Walking (m : Meaning) (n : ℕ) (rows : List Shown) (k : ℕ) (a : List ℕ) (from c : ℕ) (table : List (List (Option ℕ))) : Type 0 where
-  pub stands : Stands n k a from c
-  pub follows : RowsOfSheet n rows → Follows (live m n rows) n k a from c
-  pub tabled : RowsOfSheet n rows → Tabled m n rows (take k a) table
+pub record Walking (m : Meaning) (n : ℕ) (rows : List Shown) (p : Prefix) (from c : ℕ) (table : List (List (Option ℕ))) : Type 0 where
+  pub same : p.n ≡ n
+  pub stands : Stands n p.len p.entries from c
+  pub follows : RowsOfSheet n rows → Follows (live m n rows) n p.len p.entries from c
+  pub tabled : RowsOfSheet n rows → Tabled m n rows (take p.len p.entries) table
+
+-- what is left of the listing
+abbrev pub work : ℕ → Prefix → ℕ → ℕ
+work n p from = 2 * length (rest n p.len p.entries from) + p.len
 
 -- what the search answers for rows of a sheet
 pub record Answers (m : Meaning) (n : ℕ) (rows : List Shown) (o : Option (List ℕ)) (c : ℕ) : Type 0 where
   pub ordering : o ≡ option_map padded (answer m n rows)
   pub tested : c ≡ length (tested m n rows)
 
--- what is refused are no rows of a sheet
-pub none_searched : {E : Type 0} (n : ℕ) (rows : List E) (shown : E → Shown) → (n < 1) ⊎ (((1 ≤ n) × (8 < n)) ⊎ ((1 ≤ n) × (n ≤ 8) × (64 < length rows))) →
-    RowsOfSheet n (map shown rows) → ⊥
-none_searched n rows shown c s = elim c [
-  | inl l ↦ omega (arith, s.variables.some)
-  | inr d ↦ elim d [
-    | inl l ↦ omega (arith, l.1, s.variables.most)
-    | inr l ↦ omega (arith, l.2, s.few, length-map rows shown)
-  ]
-]
+-- q is p with x after it
+abbrev pub Pushed : Prefix → ℕ → Prefix → Type 0
+Pushed p x q = record { entries : q.entries ≡ set p.entries p.len x; len : q.len ≡ p.len + 1; same : q.n ≡ p.n }
+
+-- q is p without its last entry, x
+abbrev LastOff : Prefix → Prefix → ℕ → Type 0
+LastOff p q x = (p.len ≡ q.len + 1) × (get_or p.entries q.len 0 ≡ x) × (q.entries ≡ set p.entries q.len 0)
+
+abbrev pub Popped : Prefix → ℕ → Prefix → Type 0
+Popped p x q = record { last : LastOff p q x; same : q.n ≡ p.n }
+
+-- q is what a pop leaves of p, and o what it takes off
+abbrev pub Pops : Prefix → Option ℕ → Prefix → Type 0
+Pops p o q = record { last : MatchOption o (p.len ≡ 0) (LastOff p q); same : q.n ≡ p.n }
+
+-- what was pushed is popped
+module _ (p : Prefix) (x : ℕ) (q : Prefix) (on : Pushed p x q) (b : Prefix) where
+  off : (o : Option ℕ) → Pops q o b → (b.len ≡ p.len) × (b.entries ≡ set q.entries b.len 0)
+  off None pops = absurd (omega (arith, pops.last, on.len))
+  off (Some y) pops = (omega (arith, pops.last.0, on.len), pops.last.2)
+
+  back : (o : Option ℕ) → Pops q o b → (b.len ≡ p.len) × (b.entries ≡ set (set p.entries p.len x) p.len 0)
+  back o pops = let (len, entries) = off o pops in (len, entries ∙ rw (len, on.entries) refl)
 
 module _ {m : Meaning} (lawful : Lawful m) {n : ℕ} {rows : List Shown} where
-  pub walking_start : 1 ≤ n → n ≤ 8 → Walking m n rows 0 (replicate 8 0) 0 0 (replicate 64 (replicate 8 None))
-  walking_start some most = record {
-    stands = start n some most;
-    follows = λ s. start_follows (live m n rows) n some;
-    tabled = λ s. tabled_start m lawful n rows s;
+  pub walking_start : 1 ≤ n → (p : Prefix) → p.len ≡ 0 → p.n ≡ n → Walking m n rows p 0 0 (replicate 64 (replicate 8 None))
+  walking_start some p z same = record {
+    same = same;
+    stands = rw z (start n p.entries some);
+    follows = λ s. rw z (start_follows (live m n rows) n p.entries some);
+    tabled = λ s. rw z (tabled_start m lawful n rows s);
   }
 
-  module _ {k : ℕ} {a : List ℕ} {from c : ℕ} {table : List (List (Option ℕ))} (w : Walking m n rows k a from c table) where
-    -- the entry to take off is a variable
-    pub pop_range : (j : ℕ) → k ≡ suc j → (1 ≤ get_or a j 0) × (get_or a j 0 ≤ 8)
-    pop_range j z =
-        let entries : Entries n (take (j + 1) a) = subst (λ (i : ℕ). Entries n (take i a)) (z ∙ sym (add-one j)) w.stands.proper in
-        let (low, high) = entry_range n a j (omega (arith, w.stands.long, w.stands.within, w.stands.most)) entries in
-        (low, omega (arith, w.stands.most))
+  module _ {p : Prefix} {from c : ℕ} {table : List (List (Option ℕ))} (w : Walking m n rows p from c table) where
+    here : Held n p.len p.entries
+    here = rw w.same at (held p)
 
-    pub walking_back : (j : ℕ) → k ≡ suc j → unused_above n (take k a) from ≡ [] → (new : List (List (Option ℕ))) → Written (λ q. None) (get_or a j 0) 64 table new →
-        Walking m n rows j (set a j 0) (get_or a j 0) c new
-    walking_back j z e new written =
-        let at : k ≡ j + 1 = z ∙ sym (add-one j) in
-        let entries : Entries n (take (j + 1) a) = subst (λ (i : ℕ). Entries n (take i a)) at w.stands.proper in
-        record {
-          stands = popped w.stands j z e;
-          follows = λ s. popped_follows w.stands (w.follows s) j z e;
-          tabled = λ s. tabled_back m lawful n rows s a j (get_or a j 0) table new (omega (arith, w.stands.long, w.stands.within, w.stands.most)) refl entries
-              (subst (λ (i : ℕ). Tabled m n rows (take i a) table) at (w.tabled s)) written (set a j 0) (take-set-le j a j 0 (omega arith));
+    pub tests_fit : c < 43046721
+    tests_fit = bounded here w.stands
+
+    -- no variable is left at this place
+    module _ (e : unused_above p.n (take p.len p.entries) from ≡ []) where
+      ended : unused_above n (take p.len p.entries) from ≡ []
+      ended = rw w.same at e
+
+      -- and no other place
+      pub walking_end : p.len ≡ 0 → RowsOfSheet n rows → Answers m n rows None c
+      walking_end z s =
+          let (o, t) = literal (live m n rows) n (closed m lawful n rows s) in
+          record {
+            ordering = ended_first here w.stands (w.follows s) z ended ∙ ap (option_map padded) o;
+            tested = ended_count here w.stands (w.follows s) z ended ∙ ap length t;
+          }
+
+      module _ {x : ℕ} (q : Prefix) (off : Popped p x q) where
+        z : p.len ≡ suc q.len
+        z = off.last.0 ∙ add-one q.len
+
+        pub pop_range : (1 ≤ x) × (x ≤ 8)
+        pop_range = let (low, high) = last_range here q.len z in (omega (arith, off.last.1, low), omega (arith, off.last.1, high, here.most))
+
+        pub walking_back : (new : List (List (Option ℕ))) → Written (λ r. None) x 64 table new → Walking m n rows q x c new
+        walking_back new written = record {
+          same = off.same ∙ w.same;
+          stands = rw (off.last.2, ← off.last.1) (popped here w.stands q.len z ended);
+          follows = λ s. rw (off.last.2, ← off.last.1) (popped_follows here w.stands (w.follows s) q.len z ended);
+          tabled = λ s.
+              let last = held_last here q.len z in
+              rw (off.last.2, take-set-le q.len p.entries q.len 0 (omega arith))
+              (tabled_less m lawful n rows s (take q.len p.entries) (get_or p.entries q.len 0) (rw last at here.proper) table new (rw last at (w.tabled s)) (rw (← off.last.1) at written));
         }
 
-    -- nothing is left
-    pub walking_end : k ≡ 0 → unused_above n (take k a) from ≡ [] → RowsOfSheet n rows → Answers m n rows None c
-    walking_end z e s =
-        let (o, t) = literal (live m n rows) n (closed m lawful n rows s) in
-        record {
-          ordering = ended_first w.stands (w.follows s) z e ∙ ap (option_map padded) o;
-          tested = ended_count w.stands (w.follows s) z e ∙ ap length t;
-        }
+        pub work_back : work n q x < work n p from
+        work_back = rw (off.last.2, ← off.last.1) (popped_less here w.stands q.len z ended)
 
     -- x comes next
-    module _ (x : ℕ) (e : unused_above n (take k a) from ≡ x ∷ unused_above n (take k a) x) where
-      inside : k < length (set a k x)
-      inside = omega (arith, length-set a k x, w.stands.long, w.stands.within, w.stands.most)
+    module _ (x : ℕ) (e : unused_above p.n (take p.len p.entries) from ≡ x ∷ unused_above p.n (take p.len p.entries) x) where
+      next : unused_above n (take p.len p.entries) from ≡ x ∷ unused_above n (take p.len p.entries) x
+      next = rw w.same at e
 
-      here : get_or (set a k x) k 0 ≡ x
-      here = get_or-set_same a k x 0 (omega (arith, w.stands.long, w.stands.within, w.stands.most))
+      pub next_fresh : ((1 ≤ x) × (x ≤ p.n)) × (has x (take p.len p.entries) ≡ false)
+      next_fresh = let (range, unused) = fresh here w.stands x next in (rw w.same range, unused)
 
       pub next_range : (1 ≤ x) × (x ≤ 8)
-      next_range =
-          let range = entry_range n (set a k x) k inside (asked w.stands x e).entries in
-          (omega (arith, here, range.0), omega (arith, here, range.1, w.stands.most))
+      next_range = let range = (fresh here w.stands x next).0 in (range.0, omega (arith, range.1, here.most))
 
-      module _ (r : Bool) (new : List (List (Option ℕ)))
-          (told : RowsOfSheet n rows → Tabled m n rows (take k (set a k x)) table → Extended m n rows (take (k + 1) (set a k x)) r new) where
-        extended : RowsOfSheet n rows → Extended m n rows (take (k + 1) (set a k x)) r new
-        extended s = told s (rw (take-set-le k a k x (omega arith)) (w.tabled s))
+      module _ (q : Prefix) (on : Pushed p x q) where
+        taken : take q.len q.entries ≡ take p.len p.entries ++ (x ∷ [])
+        taken =
+            let (range, unused) = fresh here w.stands x next in
+            rw (on.entries, on.len) (taken_more here x range unused)
 
-        pub walking_dead : r ≡ false → (last : List (List (Option ℕ))) → Written (λ q. None) x 64 new last → Walking m n rows k (set (set a k x) k 0) x (c + 1) last
-        walking_dead is last written = record {
-          stands = dead w.stands x e;
-          follows = λ s. dead_follows w.stands (w.follows s) x e (sym is ∙ (extended s).told);
-          tabled = λ s. tabled_back m lawful n rows s (set a k x) k x new last inside here (asked w.stands x e).entries (extended s).tabled written (set (set a k x) k 0)
-              (take-set-le k (set a k x) k 0 (omega arith));
-        }
+        kept : take (q.len - 1) q.entries ≡ take p.len p.entries
+        kept =
+            let less : q.len - 1 ≡ p.len = omega (arith, on.len) in
+            rw (less, on.entries) (take-set-le p.len p.entries p.len x (omega arith))
 
-        pub walking_on : r ≡ true → k + 1 < n → Walking m n rows (k + 1) (set a k x) 0 (c + 1) new
-        walking_on is l = record {
-          stands = deeper w.stands x e l;
-          follows = λ s. deeper_follows w.stands (w.follows s) x e (sym is ∙ (extended s).told) l;
-          tabled = λ s. (extended s).tabled;
-        }
+        module _ (r : Bool) (new : List (List (Option ℕ)))
+            (told : RowsOfSheet q.n rows → Tabled m q.n rows (take (q.len - 1) q.entries) table → Extended m q.n rows (take q.len q.entries) r new) where
+          extended : RowsOfSheet n rows → Extended m n rows (take p.len p.entries ++ (x ∷ [])) r new
+          extended s = (rw (on.same ∙ w.same, kept, taken) at told) s (w.tabled s)
 
-        pub walking_found : r ≡ true → k + 1 ≡ n → RowsOfSheet n rows → Answers m n rows (Some (set a k x)) (c + 1)
-        walking_found is l s =
-            let (o, t) = literal (live m n rows) n (closed m lawful n rows s) in
-            let passes = sym is ∙ (extended s).told in
-            record {
-              ordering = found_first w.stands (w.follows s) x e passes l ∙ ap (option_map padded) o;
-              tested = found_count w.stands (w.follows s) x e passes l ∙ ap length t;
-            }
+          module _ (o : Option ℕ) (b : Prefix) (pops : Pops q o b) where
+            pub walking_dead : r ≡ false → (last : List (List (Option ℕ))) → Written (λ i. None) x 64 new last → Walking m n rows b x (c + 1) last
+            walking_dead is last written =
+                let (len, entries) = back p x q on b o pops in
+                record {
+                  same = pops.same ∙ on.same ∙ w.same;
+                  stands = rw (len, entries) (dead here w.stands x next);
+                  follows = λ s. rw (len, entries) (dead_follows here w.stands (w.follows s) x next (sym (extended s).told ∙ is));
+                  tabled = λ s.
+                      rw (len, entries, take-set-le p.len (set p.entries p.len x) p.len 0 (omega arith), take-set-le p.len p.entries p.len x (omega arith))
+                      (tabled_less m lawful n rows s (take p.len p.entries) x (entries_p here w.stands x next) new last (extended s).tabled written);
+                }
+
+            pub work_dead : work n b x < work n p from
+            work_dead = let (len, entries) = back p x q on b o pops in rw (len, entries) (dead_less here w.stands x next)
+
+          module _ (is : r ≡ true) where
+            module _ (short : q.len ≢ q.n) where
+              less : p.len + 1 < n
+              less = omega (arith, short, on.len, on.same ∙ w.same, w.stands.within)
+
+              pub walking_on : Walking m n rows q 0 (c + 1) new
+              walking_on = record {
+                same = on.same ∙ w.same;
+                stands = rw (on.len, on.entries) (deeper here w.stands x next less);
+                follows = λ s. rw (on.len, on.entries) (deeper_follows here w.stands (w.follows s) x next (sym (extended s).told ∙ is) less);
+                tabled = λ s. rw taken (extended s).tabled;
+              }
+
+              pub work_on : work n q 0 < work n p from
+              work_on = rw (on.len, on.entries) (deeper_less here w.stands x next less)
+
+            pub walking_found : q.len ≡ q.n → (order : List ℕ) → order ≡ completed q.n (take q.len q.entries) → RowsOfSheet n rows → Answers m n rows (Some order) (c + 1)
+            walking_found all order ordered s =
+                let (o, t) = literal (live m n rows) n (closed m lawful n rows s) in
+                let passes = sym (extended s).told ∙ is in
+                let l : p.len + 1 ≡ n = sym on.len ∙ all ∙ on.same ∙ w.same in
+                let is_completed : order ≡ completed n (take p.len p.entries ++ (x ∷ [])) = ordered ∙ rw (on.same ∙ w.same, taken) refl in
+                record {
+                  ordering = ap (λ (b : List ℕ). Some b) is_completed ∙ found_first here w.stands (w.follows s) x next passes l ∙ ap (option_map padded) o;
+                  tested = found_count here w.stands (w.follows s) x next passes l ∙ ap length t;
+                }

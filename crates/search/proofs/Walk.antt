@@ -1,13 +1,15 @@
 -- The listing from where the search stands. Assumes nothing.
-use Rattle.std.proofs.Common.{◌≡◌, ℕ, zero, suc, ◌+◌, ◌-◌, ◌*◌, ◌<◌, ◌≤◌, Bool, true, false, cond, not, ◌&&◌, eqb, ◌≢◌, List, [], ◌∷◌, ◌++◌, length, get_or, take, drop, set, replicate, Some, None, filter, sym, refl, ap, ◌∙◌, subst, append_assoc, append-nil, add-zero, mul-le-mul_right, suc-mul, zero-add, add-one, arith, length-append, length-set, length-take-le, take_all, drop-cons, get_or-set_other, take-suc, get_or-set_same, take-take, take-suc-set, drop-set-lt, set-set}
-use lib.Seq.{take-set-le, take-append-le, set-get_or, set_split}
+use Rattle.std.proofs.Common.{◌≡◌, ℕ, zero, suc, ◌+◌, ◌-◌, ◌*◌, ◌<◌, ◌≤◌, Bool, true, false, cond, not, ◌&&◌, eqb, ◌≢◌, List, [], ◌∷◌, ◌++◌, length, get_or, take, set, Some, None, filter, sym, refl, ap, ◌∙◌, subst, append_assoc, append-nil, add-zero, mul-le-mul_right, suc-mul, zero-add, add-one, arith, length-append, take_all, get_or-set_other, get_or-set_same, take-take, take-suc-set}
+use lib.Seq.{take-set-le, take-append-le}
 use Rattle.std.specs.List.{AllByRecursion as All}
 use Rattle.std.proofs.ByRecursion.{All-append}
 use Rattle.std.proofs.lemmas.Bool.{eq-eqb, ne_eqb, and_from, and_left, and_right, and_parts, not-true, cond-true, cond-false, cond_both}
 use Rattle.std.specs.Option.{option_map}
-use Rattle.search.specs.Prefixes.{after, has, unused_above, each, extensions, prefixes, Entries, Prefix, padded}
+use Rattle.search.specs.Prefixes.{after, has, unused_above, each, extensions, prefixes, Entries, padded, completed}
 use Rattle.search.specs.Walks.{lives, reached, first, up_to}
-use Rattle.search.proofs.Listed.{block, entries_snoc, entries_front, unused_all}
+use Rattle.search.proofs.Listed.{block, entries_snoc, unused_all}
+use Rattle.search.proofs.Orders.{completed_full}
+use Rattle.search.proofs.Held.{Held, length_held}
 use Rattle.search.proofs.Reached.{full, first_full, tested_of}
 
 -- what the listing has after the first k entries of a, and all that they begin
@@ -166,13 +168,9 @@ prefixes_length : (n : ℕ) → n ≤ 8 → length (prefixes n) < 43046721
 unfolding prefixes
 prefixes_length n h = omega (arith, ext_length n n [] h, top_le n 8 h, top_eight)
 
--- where the search stands: the first k entries of a are to be followed by a number above m, and c prefixes have been tested
+-- where the search stands: the first k entries of a, fewer than n, are to be followed by a number above m, and c prefixes have been tested
 pub record Stands (n k : ℕ) (a : List ℕ) (m c : ℕ) : Type 0 where
-  pub long : length a ≡ 8
   pub within : k < n
-  pub most : n ≤ 8
-  pub proper : Entries n (take k a)
-  pub zeros : drop k a ≡ replicate (8 - k) 0
   pub budget : c + length (rest n k a m) ≤ length (prefixes n)
 
 -- what is left decides the answer and the count
@@ -181,39 +179,16 @@ pub record Follows (alive : List ℕ → Bool) (n k : ℕ) (a : List ℕ) (m c :
   pub same_first : first (full alive n) (rest n k a m) ≡ first_full alive n
   pub same_count : c + count_in alive n (rest n k a m) ≡ length (tested_of alive n)
 
-pub start : (n : ℕ) → 1 ≤ n → n ≤ 8 → Stands n 0 (replicate 8 0) 0 0
-start n h l = record {
-  long = refl;
-  within = omega arith;
-  most = l;
-  proper = record { range = tt; apart = tt };
-  zeros = refl;
-  budget = omega (arith, ap length (rest_start n (replicate 8 0) h));
-}
+pub start : (n : ℕ) (a : List ℕ) → 1 ≤ n → Stands n 0 a 0 0
+start n a h = record { within = h; budget = omega (arith, ap length (rest_start n a h)) }
 
-pub start_follows : (alive : List ℕ → Bool) (n : ℕ) → 1 ≤ n → Follows alive n 0 (replicate 8 0) 0 0
+pub start_follows : (alive : List ℕ → Bool) (n : ℕ) (a : List ℕ) → 1 ≤ n → Follows alive n 0 a 0 0
 unfolding first_full tested_of
-start_follows alive n h = record {
+start_follows alive n a h = record {
   lived = refl;
-  same_first = ap (λ xs. first (full alive n) xs) (rest_start n (replicate 8 0) h);
-  same_count = zero-add _ ∙ ap (λ xs. count_in alive n xs) (rest_start n (replicate 8 0) h);
+  same_first = ap (λ xs. first (full alive n) xs) (rest_start n a h);
+  same_count = zero-add _ ∙ ap (λ xs. count_in alive n xs) (rest_start n a h);
 }
-
-popped' : {n : ℕ} (j : ℕ) {a : List ℕ} {m c : ℕ} → Stands n (suc j) a m c → unused_above n (take (suc j) a) m ≡ []
-    → Stands n j (set a j 0) (get_or a j 0) c
-popped' {n} j {a} {m} {c} s e =
-    let lt : j < length a = omega arith in
-    let w : suc (8 - suc j) ≡ 8 - j = omega arith in
-    record {
-      long = length-set a j 0 ∙ s.long;
-      within = omega arith;
-      most = s.most;
-      proper = rw (take-set-le j a j 0 (omega arith)) (entries_front n (take j a) (get_or a j 0 ∷ []) (rw (take-suc a j 0 lt) at s.proper));
-      zeros =
-          drop-cons (set a j 0) j 0 (rw length-set lt)
-          ∙ rw (get_or-set_same a j 0 0 lt, drop-set-lt (suc j) a j 0 (omega arith), s.zeros) (ap (λ (i : ℕ). replicate i 0) w);
-      budget = omega (arith, s.budget, ap length (rest_pop n j a m e));
-    }
 
 popped_follows' : {alive : List ℕ → Bool} {n : ℕ} (j : ℕ) {a : List ℕ} {m c : ℕ} → Follows alive n (suc j) a m c → unused_above n (take (suc j) a) m ≡ []
     → Follows alive n j (set a j 0) (get_or a j 0) c
@@ -223,100 +198,68 @@ popped_follows' {alive} {n} j {a} {m} {c} s e = record {
   same_count = sym (ap (λ xs. c + count_in alive n xs) (rest_pop n j a m e)) ∙ s.same_count;
 }
 
-module _ {n k : ℕ} {a : List ℕ} {m c : ℕ} (s : Stands n k a m c) where
+module _ {n k : ℕ} {a : List ℕ} {m c : ℕ} (h : Held n k a) (s : Stands n k a m c) where
   pub bounded : c < 43046721
-  bounded = omega (arith, s.budget, prefixes_length n s.most)
+  bounded = omega (arith, s.budget, prefixes_length n h.most)
 
   -- no number is left at this place
-  pub popped : (j : ℕ) → k ≡ suc j → unused_above n (take k a) m ≡ [] → Stands n j (set a j 0) (get_or a j 0) c
-  popped j z e =
-      popped' j (subst (λ (i : ℕ). Stands n i a m c) z s) (subst (λ (i : ℕ). unused_above n (take i a) m ≡ []) z e)
+  module _ (j : ℕ) (z : k ≡ suc j) (e : unused_above n (take k a) m ≡ []) where
+    same_rest : rest n k a m ≡ rest n j (set a j 0) (get_or a j 0)
+    same_rest =
+        ap (λ (i : ℕ). rest n i a m) z ∙ rest_pop n j a m (subst (λ (i : ℕ). unused_above n (take i a) m ≡ []) z e)
 
-  pub popped_less : (j : ℕ) → k ≡ suc j → unused_above n (take k a) m ≡ []
-      → 2 * length (rest n j (set a j 0) (get_or a j 0)) + j < 2 * length (rest n k a m) + k
-  popped_less j z e =
-      let q : rest n k a m ≡ rest n j (set a j 0) (get_or a j 0) =
-      ap (λ (i : ℕ). rest n i a m) z ∙ rest_pop n j a m (subst (λ (i : ℕ). unused_above n (take i a) m ≡ []) z e) in
-      omega (arith, ap length q)
+    pub popped : Stands n j (set a j 0) (get_or a j 0) c
+    popped = record { within = omega (arith, s.within); budget = omega (arith, s.budget, ap length same_rest) }
+
+    pub popped_less : 2 * length (rest n j (set a j 0) (get_or a j 0)) + j < 2 * length (rest n k a m) + k
+    popped_less = omega (arith, ap length same_rest)
 
   module _ (x : ℕ) (e : unused_above n (take k a) m ≡ x ∷ unused_above n (take k a) x) where
-    abbrev p : List ℕ
+    abbrev pub p : List ℕ
     p = take k a ++ (x ∷ [])
 
     abbrev ps : List (List ℕ)
     ps = extensions n (n - suc k) p ++ rest n k a x
 
-    lt : k < length a
-    lt = omega arith
+    -- it is a variable, and unused
+    pub fresh : ((1 ≤ x) × (x ≤ n)) × (has x (take k a) ≡ false)
+    fresh =
+        let u = (subst (λ us. All (λ y. ((m < y) × (y ≤ n)) × (not (has y (take k a)) ≡ true)) us) e (unused_all n (take k a) m)).0 in
+        ((omega (arith, u.0.0), u.0.1), not-true _ u.1)
 
-    length_q : length (take k a) ≡ k
-    length_q = length-take-le k a (omega (arith, lt))
+    lt : k < length a
+    lt = omega (arith, h.long, h.most, s.within)
 
     length_p : length p ≡ suc k
-    length_p = omega (arith, length-append (take k a) (x ∷ []), length_q)
+    length_p = omega (arith, length-append (take k a) (x ∷ []), length_held h)
 
     -- what follows p, and what is left after that, are left
     left : suc (length (extensions n (n - suc k) p) + length (rest n k a x)) ≡ length (rest n k a m)
     left = omega (arith, ap length (rest_some n k a m x e), length-append (extensions n (n - suc k) p) (rest n k a x))
 
-    entries_p : Entries n p
-    entries_p =
-        let u = (subst (λ us. All (λ y. ((m < y) × (y ≤ n)) × (not (has y (take k a)) ≡ true)) us) e (unused_all n (take k a) m)).0 in
-        entries_snoc n (take k a) x s.proper (omega arith, u.0.1) (not-true _ u.1)
+    pub entries_p : Entries n p
+    entries_p = entries_snoc n (take k a) x h.proper fresh.0 fresh.1
 
-    pub taken : take (k + 1) (set a k x) ≡ p
-    taken = ap (λ (i : ℕ). take i (set a k x)) (add-one k) ∙ take-suc-set a k x lt
-
-    split_zeros : get_or a k 0 ∷ drop (suc k) a ≡ 0 ∷ replicate (8 - suc k) 0
-    split_zeros =
-        let w : 8 - k ≡ suc (8 - suc k) = omega arith in
-        sym (drop-cons a k 0 lt) ∙ s.zeros ∙ ap (λ (i : ℕ). replicate i 0) w
-
-    zero_at : get_or a k 0 ≡ 0
-    zero_at = cc split_zeros
-
-    tail_zeros : drop (suc k) a ≡ replicate (8 - suc k) 0
-    tail_zeros = cc split_zeros
-
-    -- what is tested is a prefix, with zeros after it
-    pub asked : Prefix n (take (k + 1) (set a k x))
-    asked = subst (Prefix n) (sym taken) (record { some = omega (arith, length_p); most = omega (arith, length_p); entries = entries_p })
-
-    pub asked_zeros : drop (k + 1) (set a k x) ≡ replicate (8 - (k + 1)) 0
-    asked_zeros =
-        subst (λ (i : ℕ). drop i (set a k x) ≡ replicate (8 - i) 0) (sym (add-one k)) (drop-set-lt (suc k) a k x (omega arith) ∙ tail_zeros)
-
-    pub back : set (set a k x) k 0 ≡ a
-    back = set-set a k x 0 ∙ subst (λ (v : ℕ). set a k v ≡ a) zero_at (set-get_or a k 0)
+    rest_back : rest n k (set (set a k x) k 0) x ≡ rest n k a x
+    rest_back = rest_set n k (set a k x) x k 0 (omega arith) ∙ rest_set n k a x k x (omega arith)
 
     pub dead : Stands n k (set (set a k x) k 0) x (c + 1)
-    dead = subst (λ (b : List ℕ). Stands n k b x (c + 1)) (sym back) (record {
-      long = s.long;
-      within = s.within;
-      most = s.most;
-      proper = s.proper;
-      zeros = s.zeros;
-      budget = omega (arith, left, s.budget);
-    })
+    dead = record { within = s.within; budget = omega (arith, left, s.budget, ap length rest_back) }
 
     pub dead_less : 2 * length (rest n k (set (set a k x) k 0) x) + k < 2 * length (rest n k a m) + k
-    dead_less = omega (arith, ap (λ (b : List ℕ). length (rest n k b x)) back, left)
+    dead_less = omega (arith, ap length rest_back, left)
+
+    rest_deeper : k + 1 < n → rest n (k + 1) (set a k x) 0 ≡ ps
+    rest_deeper l = ap (λ (i : ℕ). rest n i (set a k x) 0) (add-one k) ∙ rest_live n k a x (omega arith) lt
 
     pub deeper : k + 1 < n → Stands n (k + 1) (set a k x) 0 (c + 1)
-    deeper h =
-        subst (λ (i : ℕ). Stands n i (set a k x) 0 (c + 1)) (sym (add-one k)) (record {
-          long = length-set a k x ∙ s.long;
-          within = omega arith;
-          most = s.most;
-          proper = rw (take-suc-set a k x lt) entries_p;
-          zeros = drop-set-lt (suc k) a k x (omega arith) ∙ tail_zeros;
-          budget = omega (arith, left, s.budget, ap length (rest_live n k a x (omega arith) lt), length-append (extensions n (n - suc k) p) (rest n k a x));
-        })
+    deeper l = record {
+      within = l;
+      budget = omega (arith, left, s.budget, ap length (rest_deeper l), length-append (extensions n (n - suc k) p) (rest n k a x));
+    }
 
     pub deeper_less : k + 1 < n → 2 * length (rest n (k + 1) (set a k x) 0) + (k + 1) < 2 * length (rest n k a m) + k
-    deeper_less h =
-        let r = rest_live n k a x (omega arith) lt in
-        omega (arith, ap (λ (i : ℕ). length (rest n i (set a k x) 0)) (add-one k), ap length r, ap length (rest_some n k a m x e))
+    deeper_less l = omega (arith, ap length (rest_deeper l), ap length (rest_some n k a m x e))
 
   module _ {alive : List ℕ → Bool} (f : Follows alive n k a m c) where
     -- no number is left at any place
@@ -337,54 +280,49 @@ module _ {n k : ℕ} {a : List ℕ} {m c : ℕ} (s : Stands n k a m c) where
       reached_p : reached alive (p x e) ≡ true
       reached_p =
           reached_snoc alive (take k a) x
-          ∙ ap (λ (i : ℕ). lives alive i (take k a)) (length_q x e)
+          ∙ ap (λ (i : ℕ). lives alive i (take k a)) (length_held h)
           ∙ lives_take alive k k a (omega arith)
           ∙ f.lived
 
-      at_p : (b : Bool) → b ≡ alive (take (k + 1) (set a k x)) → alive (p x e) ≡ b
-      at_p b d = sym (d ∙ ap alive (taken x e))
-
-      pub dead_follows : false ≡ alive (take (k + 1) (set a k x)) → Follows alive n k (set (set a k x) k 0) x (c + 1)
-      dead_follows d =
-          let dp : alive (p x e) ≡ false = at_p false d in
+      pub dead_follows : alive (p x e) ≡ false → Follows alive n k (set (set a k x) k 0) x (c + 1)
+      dead_follows dp =
           let g : full alive n (p x e) ≡ false = and_right (eqb (length (p x e)) n) _ (and_left (alive (p x e)) _ dp) in
           let over = skip alive n (extensions n (n - suc k) (p x e)) (rest n k a x) (ext_dead alive n (n - suc k) (p x e) (lives_snoc alive (take k a) x ∙ and_left (alive (p x e)) _ dp)) in
           let counted : count_in alive n (rest n k a m) ≡ suc (count_in alive n (rest n k a x)) =
           ap (λ xs. count_in alive n xs) (rest_some n k a m x e) ∙ one_more alive n (p x e) (ps x e) reached_p g ∙ ap suc over.1 in
-          subst (λ (b : List ℕ). Follows alive n k b x (c + 1)) (sym (back x e)) (record {
-            lived = f.lived;
-            same_first = sym (ap (λ xs. first (full alive n) xs) (rest_some n k a m x e) ∙ cond-false (full alive n (p x e)) _ _ g ∙ over.0) ∙ f.same_first;
-            same_count = omega (arith, counted, f.same_count);
-          })
+          record {
+            lived = lives_set alive k (set a k x) k 0 (omega arith) ∙ lives_set alive k a k x (omega arith) ∙ f.lived;
+            same_first =
+                rw (rest_back x e)
+                (sym (ap (λ xs. first (full alive n) xs) (rest_some n k a m x e) ∙ cond-false (full alive n (p x e)) _ _ g ∙ over.0) ∙ f.same_first);
+            same_count = omega (arith, counted, f.same_count, ap (λ xs. count_in alive n xs) (rest_back x e));
+          }
 
-      pub deeper_follows : true ≡ alive (take (k + 1) (set a k x)) → k + 1 < n → Follows alive n (k + 1) (set a k x) 0 (c + 1)
-      deeper_follows d h =
-          let dp : alive (p x e) ≡ true = at_p true d in
+      pub deeper_follows : alive (p x e) ≡ true → k + 1 < n → Follows alive n (k + 1) (set a k x) 0 (c + 1)
+      deeper_follows dp l =
           let g : full alive n (p x e) ≡ false = and_left (eqb (length (p x e)) n) _ (ne_eqb (length (p x e)) n (λ q. omega (arith, length_p x e, q))) in
-          let r = rest_live n k a x (omega arith) (lt x e) in
-          let counted : count_in alive n (rest n k a m) ≡ suc (count_in alive n (rest n (suc k) (set a k x) 0)) =
+          let r = rest_deeper x e l in
+          let counted : count_in alive n (rest n k a m) ≡ suc (count_in alive n (rest n (k + 1) (set a k x) 0)) =
           ap (λ xs. count_in alive n xs) (rest_some n k a m x e) ∙ one_more alive n (p x e) (ps x e) reached_p g ∙ sym (ap (λ xs. suc (count_in alive n xs)) r) in
-          subst (λ (i : ℕ). Follows alive n i (set a k x) 0 (c + 1)) (sym (add-one k)) (record {
-            lived = and_from _ _ (ap alive (take-suc-set a k x (lt x e)) ∙ dp) (lives_set alive k a k x (omega arith) ∙ f.lived);
+          record {
+            lived = rw add-one (and_from _ _ (ap alive (take-suc-set a k x (lt x e)) ∙ dp) (lives_set alive k a k x (omega arith) ∙ f.lived));
             same_first =
                 sym (ap (λ xs. first (full alive n) xs) (rest_some n k a m x e) ∙ cond-false (full alive n (p x e)) _ _ g ∙ sym (ap (λ xs. first (full alive n) xs) r))
                 ∙ f.same_first;
             same_count = omega (arith, counted, f.same_count);
-          })
+          }
 
       full_p : alive (p x e) ≡ true → k + 1 ≡ n → full alive n (p x e) ≡ true
-      full_p dp h = and_from (eqb (length (p x e)) n) _ (eq-eqb (length (p x e)) n (omega (arith, length_p x e))) (and_from (alive (p x e)) _ dp reached_p)
+      full_p dp l = and_from (eqb (length (p x e)) n) _ (eq-eqb (length (p x e)) n (omega (arith, length_p x e))) (and_from (alive (p x e)) _ dp reached_p)
 
-      pub found_first : true ≡ alive (take (k + 1) (set a k x)) → k + 1 ≡ n → Some (set a k x) ≡ option_map padded (first_full alive n)
-      found_first d h =
-          let g = full_p (at_p true d) h in
-          let is : set a k x ≡ padded (p x e) =
-          set_split a k x (lt x e) ∙ rw (length_p x e, tail_zeros x e) (sym (append_assoc (take k a) (x ∷ []) (replicate (8 - suc k) 0))) in
-          ap (λ (b : List ℕ). Some b) is
+      pub found_first : alive (p x e) ≡ true → k + 1 ≡ n → Some (completed n (p x e)) ≡ option_map padded (first_full alive n)
+      found_first dp l =
+          let g = full_p dp l in
+          ap (λ (b : List ℕ). Some b) (completed_full n (p x e) (entries_p x e) (omega (arith, length_p x e)))
           ∙ ap (option_map padded) (sym (ap (λ xs. first (full alive n) xs) (rest_some n k a m x e) ∙ cond-true (full alive n (p x e)) _ _ g) ∙ f.same_first)
 
-      pub found_count : true ≡ alive (take (k + 1) (set a k x)) → k + 1 ≡ n → c + 1 ≡ length (tested_of alive n)
-      found_count d h =
+      pub found_count : alive (p x e) ≡ true → k + 1 ≡ n → c + 1 ≡ length (tested_of alive n)
+      found_count dp l =
           let counted : count_in alive n (rest n k a m) ≡ 1 =
-          ap (λ xs. count_in alive n xs) (rest_some n k a m x e) ∙ last_one alive n (p x e) (ps x e) reached_p (full_p (at_p true d) h) in
+          ap (λ xs. count_in alive n xs) (rest_some n k a m x e) ∙ last_one alive n (p x e) (ps x e) reached_p (full_p dp l) in
           omega (arith, counted, f.same_count)

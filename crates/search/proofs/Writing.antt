@@ -1,6 +1,6 @@
 -- A column written place by place. Assumes nothing.
-use Rattle.std.proofs.Common.{◌≡◌, ℕ, zero, suc, ◌+◌, ◌-◌, ◌<◌, ◌≤◌, cond, eqb, List, [], length, get_or, set, replicate, None, Option, sym, refl, ap, ◌∙◌, inl, inr, arith}
-use Rattle.std.proofs.lemmas.List.{get_or-set_same, get_or-set_other, get_or_default, length-set}
+use Rattle.std.proofs.Common.{◌≡◌, ℕ, zero, suc, ◌+◌, ◌-◌, ◌<◌, ◌≤◌, cond, eqb, List, [], ◌++◌, length, get_or, set, replicate, None, Option, sym, refl, ap, ◌∙◌, inl, inr, arith, length-append}
+use Rattle.std.proofs.lemmas.List.{get_or-set_same, get_or-set_other, get_or_default, length-set, set-append_left, get_or_append_left}
 use Rattle.std.proofs.lemmas.Bool.{cases_eq, eq-eqb, ne_eqb, cond-true, cond-false}
 use Rattle.cones.specs.Tables.{limit_in, limits_at, limits_of}
 use Rattle.search.specs.Columns.{Wide}
@@ -57,6 +57,13 @@ module _ {f : ℕ → Option ℕ} {x k : ℕ} {old new : List (List (Option ℕ)
     ];
     rest = λ q v l. ap (λ xs. limit_in xs v) (other q (λ e. omega arith)) ∙ w.rest q v (omega arith);
   }
+
+-- the same where the places so far are the first of a longer table
+pub writing_front : {f : ℕ → Option ℕ} {x k : ℕ} {old : List (List (Option ℕ))} (items rest : List (List (Option ℕ))) → Writing f x k old (items ++ rest) → k < length items → 1 ≤ x → x ≤ 8 →
+    (o : Option ℕ) → o ≡ f k → Writing f x (k + 1) old (set items k (set (get_or items k []) (x - 1) o) ++ rest)
+writing_front {f} {x} {k} {old} items rest w within low high o is =
+    let whole : k < length old = omega (arith, w.long, length-append items rest) in
+    rw (← set-append_left items rest k (set (get_or items k []) (x - 1) o) within, ← get_or_append_left items rest [] k within) (writing_more w whole low high o is)
 
 pub writing_end : (f : ℕ → Option ℕ) (x k n : ℕ) (old new : List (List (Option ℕ))) → n ≤ k → Writing f x k old new →
     Wide new × ((q v : ℕ) → q < n → limits_of new q v ≡ cond (eqb v x) (f q) (limits_of old q v))

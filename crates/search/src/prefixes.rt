@@ -1,50 +1,104 @@
-// Prefixes of orderings, as the first entries of eight bytes.
-ghost use Rattle.std.specs.Prelude.{◌≡◌, ◌-◌, ◌≤◌, [], ◌∷◌, take, drop, replicate, MatchOption};
-ghost use Rattle.search.specs.Prefixes.{has, unused_above, Prefix, completed as completion};
+// Prefixes of orderings.
+ghost use Rattle.std.specs.Prelude.{◌≡◌, ◌+◌, ◌-◌, ◌≤◌, false, [], ◌∷◌, slice_index, take, replicate, slice_set, Decides, MatchOption};
+ghost use Rattle.search.specs.Prefixes.{has, unused_above, Entries, padded, completed as completion};
 
-// Whether x is one of the first entries.
-fn used(prefix: &[u8; 8], len: usize, x: u8) -> bool
-    requires { len ≤ 8 }
-    ensures { result ≡ has x (take len prefix.now) }
-{
-    for i in 0..len {
-        if prefix[i] == x {
-            return true;
-        }
-    }
-    false
+// The first entries of an ordering of n variables: distinct ones of these, the greatest first, with zeros after them.
+#[derive(Clone, Copy)]
+pub(crate) struct Prefix {
+    entries: [u8; 8],
+    len: usize,
+    pub(crate) n: u8,
+    ghost few: { n ≤ 8 },
+    ghost within: { len ≤ n },
+    ghost proper: { ∥ Entries n (take len entries) ∥₁ },
+    ghost zeros: { entries ≡ padded (take len entries) },
 }
 
-// The smallest variable above `from` that is not among the first entries.
-pub(crate) fn next_unused(prefix: &[u8; 8], len: usize, from: u8, n: u8) -> Option<u8>
-    requires { (len ≤ 8) × (n ≤ 8) }
-    ensures { MatchOption result (unused_above n (take len prefix.now) from ≡ []) (λ x. unused_above n (take len prefix.now) from ≡ x ∷ unused_above n (take len prefix.now) x) }
-{
-    let mut x = from;
-    while x < n {
-        x += 1;
-        if !used(prefix, len, x) {
-            return Some(x);
+impl Prefix {
+    // No entries yet.
+    pub(crate) fn new(n: u8) -> Self
+        requires { n ≤ 8 }
+        ensures entries { result.entries ≡ replicate 8 0 }
+        ensures len { result.len ≡ 0 }
+        ensures same { result.n ≡ n }
+    {
+        Prefix {
+            entries: [0; 8],
+            len: 0,
+            n,
         }
     }
-    None
-}
 
-// The ordering that a prefix begins, with the unused variables after it in increasing order.
-pub(crate) fn completed(prefix: &[u8; 8], len: usize, n: u8) -> [u8; 8]
-    requires few { n ≤ 8 }
-    requires prefix { Prefix n (take len prefix.now) }
-    requires short { len ≤ n }
-    requires zeros { drop len prefix.now ≡ replicate (8 - len) 0 }
-    ensures { result ≡ completion n (take len prefix.now) }
-{
-    let mut order = *prefix;
-    let mut at = len;
-    for below in 0..n {
-        if !used(prefix, len, below + 1) {
-            order[at] = below + 1;
-            at += 1;
-        }
+    // Whether x is one of the entries.
+    fn has(&self, x: u8) -> bool
+        ensures { result ≡ has x (take self.now.len self.now.entries) }
+    {
+        self.entries[..self.len].contains(&x)
     }
-    order
+
+    // Whether all variables are entries.
+    pub(crate) fn is_full(&self) -> bool
+        ensures { Decides result (self.now.len ≡ self.now.n) }
+    {
+        self.len == self.n as usize
+    }
+
+    // The smallest variable above `from` that is not an entry.
+    #[tactic(auto, using(crate::proofs::Entries::above_yes, crate::proofs::Entries::above_no, crate::proofs::Entries::above_none))]
+    pub(crate) fn next_unused(&self, from: u8) -> Option<u8>
+        ensures { MatchOption result (unused_above self.now.n (take self.now.len self.now.entries) from ≡ []) (λ x. unused_above self.now.n (take self.now.len self.now.entries) from ≡ x ∷ unused_above self.now.n (take self.now.len self.now.entries) x) }
+    {
+        for below in from..self.n {
+            let x = below + 1;
+            if !self.has(x) {
+                return Some(x);
+            }
+        }
+        None
+    }
+
+    // The last entry.
+    pub(crate) fn last(&self) -> u8
+        requires { 1 ≤ self.now.len }
+        ensures { slice_index self.now.entries (self.now.len - 1) ≡ result }
+    {
+        self.entries[self.len - 1]
+    }
+
+    // One entry more.
+    pub(crate) fn push(&mut self, x: u8)
+        requires variable { (1 ≤ x) × (x ≤ self.old.n) }
+        requires unused { has x (take self.old.len self.old.entries) ≡ false }
+        ensures entries { self.new.entries ≡ slice_set self.old.entries self.old.len x }
+        ensures len { self.new.len ≡ self.old.len + 1 }
+        ensures same { self.new.n ≡ self.old.n }
+    {
+        self.entries[self.len] = x;
+        self.len += 1;
+    }
+
+    // Takes the last entry off.
+    pub(crate) fn pop(&mut self) -> Option<u8>
+        ensures last { MatchOption result (self.old.len ≡ 0) (λ x. (self.old.len ≡ self.new.len + 1) × (slice_index self.old.entries self.new.len ≡ x) × (self.new.entries ≡ slice_set self.old.entries self.new.len 0)) }
+        ensures same { self.new.n ≡ self.old.n }
+    {
+        let at = self.len.checked_sub(1)?;
+        let last = self.entries[at];
+        self.entries[at] = 0;
+        self.len = at;
+        Some(last)
+    }
+
+    // The ordering that the prefix begins, with the unused variables after it in increasing order.
+    pub(crate) fn completed(&self) -> [u8; 8]
+        ensures { result ≡ completion self.now.n (take self.now.len self.now.entries) }
+    {
+        let mut whole = *self;
+        let mut from = 0;
+        while let Some(x) = self.next_unused(from) {
+            whole.push(x);
+            from = x;
+        }
+        whole.entries
+    }
 }

@@ -10,9 +10,10 @@ use crate::columns::*;
 use crate::prefixes::*;
 use divisions::Division;
 use elements::Element;
+use orderings::orders::is_variable_count;
 
 // How many prefixes were tested, and the ordering of the first live one that has all variables.
-#[derive(Clone, Copy)]
+#[derive(Clone, Copy, PartialEq, Eq, Debug)]
 pub struct Found {
     pub tested: u32,
     pub ordering: Option<[u8; 8]>,
@@ -33,39 +34,35 @@ pub fn search<E: Element, D: Division>(division: &D, rows: &[E], n: u8) -> Found
     ensures full { FullPrefixIsLiveExactlyWhenComplete }
     ensures first { TheAnswerIsTheFirstCompleteOrdering }
 {
-    if n < 1 || n > 8 || rows.len() > 64 {
+    if !is_variable_count(n) || rows.len() > 64 {
         return Found {
             tested: 0,
             ordering: None,
         };
     }
-    let mut prefix = [0u8; 8];
+    let mut prefix = Prefix::new(n);
     let mut table = [[None; 8]; 64];
-    let mut len: usize = 0;
     let mut from: u8 = 0;
     let mut tested: u32 = 0;
     let ordering = 'walk: loop {
-        match next_unused(&prefix, len, from, n) {
+        match prefix.next_unused(from) {
             None => {
-                if len == 0 {
+                let Some(last) = prefix.pop() else {
                     break 'walk None;
-                }
-                len -= 1;
-                from = prefix[len];
-                prefix[len] = 0;
+                };
+                from = last;
                 clear_column(&mut table, from);
             }
             Some(x) => {
-                prefix[len] = x;
+                prefix.push(x);
                 tested += 1;
-                if !extend(&mut table, division, rows, &prefix, len, n) {
-                    prefix[len] = 0;
+                if !extend(&mut table, division, rows, &prefix) {
+                    prefix.pop();
                     from = x;
                     clear_column(&mut table, x);
-                } else if len + 1 == n as usize {
-                    break 'walk Some(prefix);
+                } else if prefix.is_full() {
+                    break 'walk Some(prefix.completed());
                 } else {
-                    len += 1;
                     from = 0;
                 }
             }

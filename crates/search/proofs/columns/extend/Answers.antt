@@ -1,19 +1,23 @@
-use Rattle.std.proofs.Common.{map, arith}
+use Rattle.std.proofs.Common.{◌-◌, map, arith}
 use Rattle.std.proofs.lemmas.List.{length-map}
 use Rattle.cones.specs.Tables.{limits_of}
-use Rattle.search.proofs.Extending.{extended, entry_range, decides_shortfall}
+use Rattle.search.proofs.Held.{held, held_prefix, held_last, last_range}
+use Rattle.search.proofs.Extending.{extended, decides_shortfall}
 use Rattle.search.proofs.columns.extend.Goals as goal
 
 pub fill_column-requires : goal.fill_column-requires
 fill_column-requires g c =
-    let range = entry_range c.args.n c.args.prefix.now c.args.len (omega arith) c.requires.entries.entries in
-    record { places = c.requires.places; low = range.0; high = omega (arith, range.1) }
+    let p = c.args.prefix.now in
+    let (low, high) = last_range (held p) (p.len - 1) (omega (arith, c.requires.some)) in
+    record { places = c.requires.places; column = (rw c.last.ensures at low, omega (arith, c.last.ensures, high, p.few)) }
 
 pub returns : goal.returns
 returns g c = λ s t.
     let shown = g.E.Element.shown in
-    extended (g.D.Division.meaning c.args.division.now) (g.met.D.Division.lawful c.args.division.now) c.args.n (map shown c.args.rows.now) s
-    c.args.prefix.now c.args.len c.completed-order.result c.args.table.now c.fill_column.new.table _ c.is_none.result
-    (omega arith) c.requires.entries c.completed-order.ensures (length-map c.args.rows.now shown) t c.fill_column.ensures
-    (λ small. decides_shortfall c.args.n (map shown c.args.rows.now) (limits_of c.fill_column.new.table) c.first_shortfall.result c.is_none.result
+    let p = c.args.prefix.now in
+    extended (g.D.Division.meaning c.args.division.now) (g.met.D.Division.lawful c.args.division.now) p.n (map shown c.args.rows.now) s
+    _ _ c.last.result c.completed-order.result c.args.table.now c.fill_column.new.table _ c.is_none.result
+    (rw c.last.ensures at (held_last (held p) (p.len - 1) (omega (arith, c.requires.some)))) (held_prefix (held p) c.requires.some)
+    c.completed-order.ensures (length-map c.args.rows.now shown) t c.fill_column.ensures
+    (λ small. decides_shortfall p.n (map shown c.args.rows.now) (limits_of c.fill_column.new.table) c.first_shortfall.result c.is_none.result
     c.is_none.ensures (c.first_shortfall.ensures.first small))

@@ -1,76 +1,86 @@
-use Rattle.std.proofs.Common.{◌-◌, refl, arith}
-use Rattle.search.proofs.Walk.{bounded, popped_less, asked, asked_zeros, dead_less, deeper_less}
-use Rattle.search.proofs.Stepping.{none_searched, walking_start, pop_range, walking_back, walking_end, next_range, walking_dead, walking_on, walking_found}
+use Rattle.std.proofs.Common.{◌≡◌, ℕ, ◌≤◌, List, length, None, Option, refl, arith}
+use Rattle.std.specs.Option.{option_map}
+use Rattle.std.proofs.lemmas.Bool.Decides.{not_from_Decides}
+use Rattle.std.proofs.lemmas.Grind.{common_steps}
+use Rattle.elements.specs.Element.{Shown}
+use Rattle.orderings.specs.Order.{VariableCount}
+use Rattle.divisions.specs.Laws.{Meaning}
+use Rattle.search.specs.Prefixes.{padded, ListingHasEveryPrefixInOrder}
+use Rattle.search.specs.Liveness.{RowsOfSheet, answer, tested}
+use Rattle.search.specs.Theorems.{LiveIsToldByItsTest, PrefixLimitsHoldInEveryExtension, EveryExtensionOfADeadPrefixIsDead, EveryLivePrefixIsReached, NoOrderingExtendsADeadPrefixToCompleteness, FullPrefixIsLiveExactlyWhenComplete, TheAnswerIsTheFirstCompleteOrdering}
 use Rattle.search.proofs.Listed.{listed}
 use Rattle.search.proofs.Deadness.{live_is_told_by_its_test, prefix_limits_hold_in_every_extension, every_extension_of_a_dead_prefix_is_dead, every_live_prefix_is_reached, no_ordering_extends_a_dead_prefix_to_completeness, full_prefix_is_live_exactly_when_complete}
 use Rattle.search.proofs.Answered.{the_answer_is_the_first_complete_ordering}
+use Rattle.search.proofs.Stepping.{Answers, tests_fit, walking_start, next_fresh, pop_range, walking_back, work_back, next_range, walking_dead, work_dead, walking_on, work_on, walking_end, walking_found}
 use Rattle.search.proofs.searching.search.Goals as goal
 
-pub returns-then-n-lt1 : goal.returns-then-n-lt1
-returns-then-n-lt1 g c = record {
-  ordering = λ s. absurd (none_searched c.args.n c.args.rows.now g.E.Element.shown c.then-n-lt1.either s);
-  tested = λ s. absurd (none_searched c.args.n c.args.rows.now g.E.Element.shown c.then-n-lt1.either s);
-  refused = λ _. (refl, refl);
-  listing = listed;
-  test = live_is_told_by_its_test;
-  limits = prefix_limits_hold_in_every_extension;
-  dead = every_extension_of_a_dead_prefix_is_dead;
-  reached = every_live_prefix_is_reached;
-  incomplete = no_ordering_extends_a_dead_prefix_to_completeness;
-  full = full_prefix_is_live_exactly_when_complete;
-  first = the_answer_is_the_first_complete_ordering;
-}
-
 pub walk-init : goal.walk-init
-walk-init g c = walking_start (g.met.D.Division.lawful c.args.division.now) (omega arith) (omega arith)
+walk-init g c =
+    walking_start (g.met.D.Division.lawful c.args.division.now) (c.is_variable_count.ensures.0 c.if-not-is_variable_count.false).some c.new-prefix.result
+    c.new-prefix.ensures.len c.new-prefix.ensures.same
 
 pub clear_column-requires : goal.clear_column-requires
-clear_column-requires g c = pop_range (g.met.D.Division.lawful c.args.division.now) c.walk.invariant (c.walk.len - 1) (omega arith)
+clear_column-requires g c =
+    pop_range (g.met.D.Division.lawful c.args.division.now) c.walk.invariant c.in-None.ensures c.pop.new.self c.in-Some-pop.ensures
 
 pub walk-smaller-in-None : goal.walk-smaller-in-None
-walk-smaller-in-None g c = popped_less c.walk.invariant.stands (c.walk.len - 1) (omega arith) c.in-None.ensures
+walk-smaller-in-None g c =
+    work_back (g.met.D.Division.lawful c.args.division.now) c.walk.invariant c.in-None.ensures c.pop.new.self c.in-Some-pop.ensures
 
 pub walk-preserved-in-None : goal.walk-preserved-in-None
 walk-preserved-in-None g c =
-    walking_back (g.met.D.Division.lawful c.args.division.now) c.walk.invariant (c.walk.len - 1) (omega arith) c.in-None.ensures _ c.clear_column.ensures
+    walking_back (g.met.D.Division.lawful c.args.division.now) c.walk.invariant c.in-None.ensures c.pop.new.self c.in-Some-pop.ensures
+    c.clear_column.new.table c.clear_column.ensures
+
+pub push-requires : goal.push-requires
+push-requires g c =
+    let (range, unused) = next_fresh (g.met.D.Division.lawful c.args.division.now) c.walk.invariant c.in-Some.x c.in-Some.ensures in
+    record { variable = range; unused = unused }
 
 pub overflow_add-tested : goal.overflow_add-tested
-overflow_add-tested g c = omega (arith, bounded c.walk.invariant.stands)
-
-pub extend-requires : goal.extend-requires
-extend-requires g c =
-    let stands = c.walk.invariant.stands in
-    record {
-      places = omega arith;
-      few = stands.most;
-      short = omega (arith, stands.within);
-      entries = asked stands c.in-Some.x c.in-Some.ensures;
-      zeros = asked_zeros stands c.in-Some.x c.in-Some.ensures;
-    }
+overflow_add-tested g c = omega (arith, tests_fit (g.met.D.Division.lawful c.args.division.now) c.walk.invariant)
 
 pub clear_column-requires-then-not-extend : goal.clear_column-requires-then-not-extend
-clear_column-requires-then-not-extend g c =
-    next_range (g.met.D.Division.lawful c.args.division.now) c.walk.invariant c.in-Some.x c.in-Some.ensures
+clear_column-requires-then-not-extend g c = next_range (g.met.D.Division.lawful c.args.division.now) c.walk.invariant c.in-Some.x c.in-Some.ensures
 
 pub walk-smaller-then-not-extend : goal.walk-smaller-then-not-extend
-walk-smaller-then-not-extend g c = dead_less c.walk.invariant.stands c.in-Some.x c.in-Some.ensures
+walk-smaller-then-not-extend g c =
+    work_dead (g.met.D.Division.lawful c.args.division.now) c.walk.invariant c.in-Some.x c.in-Some.ensures c.push.new.self c.push.ensures _ _ c.extend.ensures _ c.pop-then-not-extend.new.self c.pop-then-not-extend.ensures
 
 pub walk-preserved-then-not-extend : goal.walk-preserved-then-not-extend
 walk-preserved-then-not-extend g c =
-    walking_dead (g.met.D.Division.lawful c.args.division.now) c.walk.invariant c.in-Some.x c.in-Some.ensures _ _ c.if-not-extend.ensures refl _ c.clear_column-then-not-extend.ensures
+    walking_dead (g.met.D.Division.lawful c.args.division.now) c.walk.invariant c.in-Some.x c.in-Some.ensures c.push.new.self c.push.ensures _ _ c.extend.ensures
+    _ c.pop-then-not-extend.new.self c.pop-then-not-extend.ensures c.if-not-extend.true _ c.clear_column-then-not-extend.ensures
 
 pub walk-smaller : goal.walk-smaller
-walk-smaller g c = deeper_less c.walk.invariant.stands c.in-Some.x c.in-Some.ensures (omega arith)
+walk-smaller g c =
+    work_on (g.met.D.Division.lawful c.args.division.now) c.walk.invariant c.in-Some.x c.in-Some.ensures c.push.new.self c.push.ensures _ _ c.extend.ensures
+    c.if-not-extend.false (not_from_Decides _ c.is_full.ensures c.if-is_full.false)
 
 pub walk-preserved : goal.walk-preserved
 walk-preserved g c =
-    walking_on (g.met.D.Division.lawful c.args.division.now) c.walk.invariant c.in-Some.x c.in-Some.ensures _ _ c.if-not-extend.ensures refl (omega arith)
+    walking_on (g.met.D.Division.lawful c.args.division.now) c.walk.invariant c.in-Some.x c.in-Some.ensures c.push.new.self c.push.ensures _ _ c.extend.ensures
+    c.if-not-extend.false (not_from_Decides _ c.is_full.ensures c.if-is_full.false)
 
-pub returns-then-len-eq0 : goal.returns-then-len-eq0
-returns-then-len-eq0 g c = record {
-  ordering = λ s. (walking_end (g.met.D.Division.lawful c.args.division.now) c.walk.invariant c.if-len-eq0.true c.in-None.ensures s).ordering;
-  tested = λ s. (walking_end (g.met.D.Division.lawful c.args.division.now) c.walk.invariant c.if-len-eq0.true c.in-None.ensures s).tested;
-  refused = λ f. absurd (f (record { some = omega arith; most = omega arith }) (omega arith));
+-- what is found, and the theorems
+with_theorems : {m : Meaning} {n : ℕ} {rows : List Shown} {o : Option (List ℕ)} {c k : ℕ} → (RowsOfSheet n rows → Answers m n rows o c) →
+    ((VariableCount n → k ≤ 64 → ⊥) → (c ≡ 0) × (o ≡ None)) → record {
+      ordering : RowsOfSheet n rows → o ≡ option_map padded (answer m n rows);
+      tested : RowsOfSheet n rows → c ≡ length (tested m n rows);
+      refused : (VariableCount n → k ≤ 64 → ⊥) → (c ≡ 0) × (o ≡ None);
+      listing : ListingHasEveryPrefixInOrder;
+      test : LiveIsToldByItsTest;
+      limits : PrefixLimitsHoldInEveryExtension;
+      dead : EveryExtensionOfADeadPrefixIsDead;
+      reached : EveryLivePrefixIsReached;
+      incomplete : NoOrderingExtendsADeadPrefixToCompleteness;
+      full : FullPrefixIsLiveExactlyWhenComplete;
+      first : TheAnswerIsTheFirstCompleteOrdering;
+    }
+with_theorems answers refused = record {
+  ordering = λ s. (answers s).ordering;
+  tested = λ s. (answers s).tested;
+  refused = refused;
   listing = listed;
   test = live_is_told_by_its_test;
   limits = prefix_limits_hold_in_every_extension;
@@ -81,17 +91,17 @@ returns-then-len-eq0 g c = record {
   first = the_answer_is_the_first_complete_ordering;
 }
 
-pub returns-then-len-n : goal.returns-then-len-n
-returns-then-len-n g c = record {
-  ordering = λ s. (walking_found (g.met.D.Division.lawful c.args.division.now) c.walk.invariant c.in-Some.x c.in-Some.ensures _ _ c.if-not-extend.ensures refl c.if-len-n.true s).ordering;
-  tested = λ s. (walking_found (g.met.D.Division.lawful c.args.division.now) c.walk.invariant c.in-Some.x c.in-Some.ensures _ _ c.if-not-extend.ensures refl c.if-len-n.true s).tested;
-  refused = λ f. absurd (f (record { some = omega arith; most = omega arith }) (omega arith));
-  listing = listed;
-  test = live_is_told_by_its_test;
-  limits = prefix_limits_hold_in_every_extension;
-  dead = every_extension_of_a_dead_prefix_is_dead;
-  reached = every_live_prefix_is_reached;
-  incomplete = no_ordering_extends_a_dead_prefix_to_completeness;
-  full = full_prefix_is_live_exactly_when_complete;
-  first = the_answer_is_the_first_complete_ordering;
-}
+pub returns-then-not-is_variable_count : goal.returns-then-not-is_variable_count
+returns-then-not-is_variable_count g c =
+    with_theorems {m = g.D.Division.meaning c.args.division.now} (λ s. absurd (grind (arith, common_steps))) (λ _. (refl, refl))
+
+pub returns-in_default : goal.returns-in_default
+returns-in_default g c =
+    with_theorems (walking_end (g.met.D.Division.lawful c.args.division.now) c.walk.invariant c.in-None.ensures c.in_default.ensures.last) (grind (arith, common_steps))
+
+pub returns-then-is_full : goal.returns-then-is_full
+returns-then-is_full g c =
+    with_theorems
+    (walking_found (g.met.D.Division.lawful c.args.division.now) c.walk.invariant c.in-Some.x c.in-Some.ensures c.push.new.self c.push.ensures _ _ c.extend.ensures
+    c.if-not-extend.false (c.is_full.ensures.0 c.if-is_full.true) _ c.completed.ensures)
+    (grind (arith, common_steps))
