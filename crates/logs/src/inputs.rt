@@ -58,8 +58,14 @@ pub fn report(heap: Global, input: &[u8]) -> Result<Report, AllocError>
         return Ok(Report::NoLog(BadStart::CutShort));
     };
     match Kind::try_from(*kind) {
-        Ok(kind @ Kind::PlainTerms) => report_kind::<PlainTerm>(heap, *variables, kind, log),
-        Ok(kind @ Kind::Derivatives) => report_kind::<Derivative>(heap, *variables, kind, log),
+        Ok(Kind::PlainTerms) => {
+            let kind = Kind::PlainTerms;
+            report_kind::<PlainTerm>(heap, *variables, kind, log)
+        }
+        Ok(Kind::Derivatives) => {
+            let kind = Kind::Derivatives;
+            report_kind::<Derivative>(heap, *variables, kind, log)
+        }
         Err(bad) => Ok(Report::NoLog(bad)),
     }
 }

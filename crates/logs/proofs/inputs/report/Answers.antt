@@ -13,12 +13,12 @@ returns-in_default c = cut_short (omega (arith, ltb-true))
 pub returns-in-Ok-PlainTerms : goal.returns-in-Ok-PlainTerms
 returns-in-Ok-PlainTerms c =
     reported _ c.args.input.now 0 c.report_kind.result c.in-len2-up.len_at_least c.if-input-gt-MOST_BYTES.false
-    (sym (c.in-Ok-PlainTerms.ensures) ∙ ap kind_number c.in-Ok-PlainTerms.kind-is) (subst (Kind 0) (sym plain_families) terms) c.report_kind.ensures
+    (sym c.in-Ok-PlainTerms.ensures ∙ ap kind_number c.in-Ok-PlainTerms.field-0-is) (subst (Kind 0) (sym plain_families) terms) c.report_kind.ensures
 
 pub returns-in-Ok-Derivatives : goal.returns-in-Ok-Derivatives
 returns-in-Ok-Derivatives c =
     reported _ c.args.input.now 1 c.report_kind-in-Ok-Derivatives.result c.in-len2-up.len_at_least c.if-input-gt-MOST_BYTES.false
-    (sym (c.in-Ok-Derivatives.ensures) ∙ ap kind_number c.in-Ok-Derivatives.kind-is) derivatives c.report_kind-in-Ok-Derivatives.ensures
+    (sym c.in-Ok-Derivatives.ensures ∙ ap kind_number c.in-Ok-Derivatives.field-0-is) derivatives c.report_kind-in-Ok-Derivatives.ensures
 
 pub returns-in-Err : goal.returns-in-Err
 returns-in-Err c =
