@@ -2,7 +2,6 @@
 #![tactic(auto)]
 
 mod bars;
-mod names;
 mod searching;
 mod sheet;
 mod terms;
