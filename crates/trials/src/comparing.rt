@@ -1,17 +1,10 @@
 // Elements, orderings and compare.
-use elements::{Derivative, Element, PlainTerm, divides, quotient, times_power};
+use crate::making::*;
+use elements::{divides, quotient, times_power};
 use orderings::comparing::{Comparison, compare};
 use orderings::fitting::is_fit;
 use orderings::orders::is_ordering;
 use orderings::refusals::Refusal;
-
-fn term(x1: u16, x2: u16, x3: u16) -> PlainTerm {
-    <PlainTerm as Element>::make(0, [x1, x2, x3, 0, 0, 0, 0, 0])
-}
-
-fn derivative(family: u8, x1: u16, x2: u16) -> Derivative {
-    <Derivative as Element>::make(family, [x1, x2, 0, 0, 0, 0, 0, 0])
-}
 
 #[test]
 fn divisors_and_quotients(rt: HostRuntime) {
