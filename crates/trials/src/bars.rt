@@ -24,12 +24,12 @@ fn non_multiplicative_powers_of_six_terms(rt: HostRuntime) {
         rows: &rows,
         order: &DOWN,
     };
-    assert!(rt; gaps(&ranked, 0) == [0, 1, 2]);
-    assert!(rt; gaps(&ranked, 1) == [0, 3, 2]);
-    assert!(rt; gaps(&ranked, 2) == [0, 0, 2]);
-    assert!(rt; gaps(&ranked, 3) == [0, 2, 3]);
-    assert!(rt; gaps(&ranked, 4) == [0, 0, 3]);
-    assert!(rt; gaps(&ranked, 5) == [0, 0, 0]);
+    assert_eq!(rt; gaps(&ranked, 0), [0, 1, 2]);
+    assert_eq!(rt; gaps(&ranked, 1), [0, 3, 2]);
+    assert_eq!(rt; gaps(&ranked, 2), [0, 0, 2]);
+    assert_eq!(rt; gaps(&ranked, 3), [0, 2, 3]);
+    assert_eq!(rt; gaps(&ranked, 4), [0, 0, 3]);
+    assert_eq!(rt; gaps(&ranked, 5), [0, 0, 0]);
 }
 
 #[test]
@@ -39,12 +39,12 @@ fn bars_of_six_terms(rt: HostRuntime) {
         rows: &rows,
         order: &DOWN,
     };
-    assert!(rt; numbers(&ranked, 0) == [1, 1, 1]);
-    assert!(rt; numbers(&ranked, 1) == [2, 2, 1]);
-    assert!(rt; numbers(&ranked, 2) == [3, 3, 1]);
-    assert!(rt; numbers(&ranked, 3) == [4, 4, 2]);
-    assert!(rt; numbers(&ranked, 4) == [5, 5, 2]);
-    assert!(rt; numbers(&ranked, 5) == [6, 6, 3]);
+    assert_eq!(rt; numbers(&ranked, 0), [1, 1, 1]);
+    assert_eq!(rt; numbers(&ranked, 1), [2, 2, 1]);
+    assert_eq!(rt; numbers(&ranked, 2), [3, 3, 1]);
+    assert_eq!(rt; numbers(&ranked, 3), [4, 4, 2]);
+    assert_eq!(rt; numbers(&ranked, 4), [5, 5, 2]);
+    assert_eq!(rt; numbers(&ranked, 5), [6, 6, 3]);
 }
 
 #[test]
@@ -54,16 +54,16 @@ fn a_set_and_its_completion(rt: HostRuntime) {
         rows: &rows,
         order: &DOWN,
     };
-    assert!(rt; gaps(&less, 0) == [0, 1, 0]);
-    assert!(rt; gaps(&less, 1) == [0, 0, 0]);
+    assert_eq!(rt; gaps(&less, 0), [0, 1, 0]);
+    assert_eq!(rt; gaps(&less, 1), [0, 0, 0]);
     let completed = [term(3, 1, 1), term(3, 2, 1), term(5, 2, 1)];
     let more = Ranked {
         rows: &completed,
         order: &DOWN,
     };
-    assert!(rt; gaps(&more, 0) == [0, 1, 0]);
-    assert!(rt; gaps(&more, 1) == [2, 0, 0]);
-    assert!(rt; gaps(&more, 2) == [0, 0, 0]);
+    assert_eq!(rt; gaps(&more, 0), [0, 1, 0]);
+    assert_eq!(rt; gaps(&more, 1), [2, 0, 0]);
+    assert_eq!(rt; gaps(&more, 2), [0, 0, 0]);
 }
 
 #[test]
@@ -79,11 +79,11 @@ fn bars_of_five_terms(rt: HostRuntime) {
         rows: &rows,
         order: &DOWN,
     };
-    assert!(rt; numbers(&ranked, 0) == [1, 1, 1]);
-    assert!(rt; numbers(&ranked, 1) == [2, 1, 1]);
-    assert!(rt; numbers(&ranked, 2) == [3, 2, 2]);
-    assert!(rt; numbers(&ranked, 3) == [4, 3, 2]);
-    assert!(rt; numbers(&ranked, 4) == [5, 4, 2]);
+    assert_eq!(rt; numbers(&ranked, 0), [1, 1, 1]);
+    assert_eq!(rt; numbers(&ranked, 1), [2, 1, 1]);
+    assert_eq!(rt; numbers(&ranked, 2), [3, 2, 2]);
+    assert_eq!(rt; numbers(&ranked, 3), [4, 3, 2]);
+    assert_eq!(rt; numbers(&ranked, 4), [5, 4, 2]);
 }
 
 // Whether variables 1, 2 and 3 are multiplicative by Janet at a place.
@@ -98,10 +98,10 @@ fn multiplicative_variables(rt: HostRuntime) {
         rows: &rows,
         order: &DOWN,
     };
-    assert!(rt; multiplicative(&ranked, 0) == [true, false, false]);
-    assert!(rt; multiplicative(&ranked, 1) == [true, true, false]);
-    assert!(rt; multiplicative(&ranked, 2) == [true, true, false]);
-    assert!(rt; multiplicative(&ranked, 3) == [true, true, true]);
+    assert_eq!(rt; multiplicative(&ranked, 0), [true, false, false]);
+    assert_eq!(rt; multiplicative(&ranked, 1), [true, true, false]);
+    assert_eq!(rt; multiplicative(&ranked, 2), [true, true, false]);
+    assert_eq!(rt; multiplicative(&ranked, 3), [true, true, true]);
     let pair = [term(1, 0, 0), term(0, 1, 0)];
     let second_greater = Ranked {
         rows: &pair,
@@ -124,14 +124,14 @@ fn limits_by_number(rt: HostRuntime) -> Result<(), Fail> {
         rows: &rows,
         order: &DOWN,
     };
-    assert!(rt; Janet.limit(&ranked, 1, 2) == Some(1));
-    assert!(rt; JanetLike.limit(&ranked, 1, 2) == Some(3));
-    assert!(rt; Janet.limit(&ranked, 2, 2) == None);
+    assert_eq!(rt; Janet.limit(&ranked, 1, 2), Some(1));
+    assert_eq!(rt; JanetLike.limit(&ranked, 1, 2), Some(3));
+    assert_eq!(rt; Janet.limit(&ranked, 2, 2), None);
     assert!(rt; numbered(0).is_none() && numbered(3).is_none());
     let first = numbered(1).ok_or("no division has the number 1")?;
     let second = numbered(2).ok_or("no division has the number 2")?;
-    assert!(rt; first.limit(&ranked, 3, 3) == Some(1));
-    assert!(rt; second.limit(&ranked, 3, 3) == Some(3));
+    assert_eq!(rt; first.limit(&ranked, 3, 3), Some(1));
+    assert_eq!(rt; second.limit(&ranked, 3, 3), Some(3));
     Ok(())
 }
 
@@ -142,7 +142,7 @@ fn each_family_has_its_own_bar_code(rt: HostRuntime) {
         rows: &rows,
         order: &[1, 2, 0, 0, 0, 0, 0, 0],
     };
-    assert!(rt; gaps(&ranked, 0) == [0, 0, 0]);
-    assert!(rt; gaps(&ranked, 1) == [0, 0, 0]);
-    assert!(rt; numbers(&ranked, 1) == [1, 1, 1]);
+    assert_eq!(rt; gaps(&ranked, 0), [0, 0, 0]);
+    assert_eq!(rt; gaps(&ranked, 1), [0, 0, 0]);
+    assert_eq!(rt; numbers(&ranked, 1), [1, 1, 1]);
 }

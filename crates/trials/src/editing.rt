@@ -32,30 +32,39 @@ fn refusal(parts: Parts<PlainTerm>) -> Option<Refusal> {
 #[test]
 fn opening_refuses_in_order(rt: HostRuntime) -> Result<(), Fail> {
     let heap = rt.alloc();
-    assert!(rt; refusal(parts(heap, 0, 0, 7)?) == Some(Refusal::VariableCount));
-    assert!(rt; refusal(parts(heap, 9, 65, 9)?) == Some(Refusal::VariableCount));
-    assert!(rt; refusal(parts(heap, 2, 0, 7)?) == Some(Refusal::PlaceCount));
-    assert!(rt; refusal(parts(heap, 2, 65, 7)?) == Some(Refusal::PlaceCount));
-    assert!(rt; refusal(parts(heap, 2, 64, 7)?) == Some(Refusal::OrderLength));
-    assert!(rt; refusal(parts(heap, 8, 1, 8)?) == None);
+    assert_eq!(rt;
+        refusal(parts(heap, 0, 0, 7)?),
+        Some(Refusal::VariableCount)
+    );
+    assert_eq!(rt;
+        refusal(parts(heap, 9, 65, 9)?),
+        Some(Refusal::VariableCount)
+    );
+    assert_eq!(rt; refusal(parts(heap, 2, 0, 7)?), Some(Refusal::PlaceCount));
+    assert_eq!(rt; refusal(parts(heap, 2, 65, 7)?), Some(Refusal::PlaceCount));
+    assert_eq!(rt; refusal(parts(heap, 2, 64, 7)?), Some(Refusal::OrderLength));
+    assert_eq!(rt; refusal(parts(heap, 8, 1, 8)?), None);
     Ok(())
 }
 
 #[test]
 fn exponents_to_4095(rt: HostRuntime) -> Result<(), Fail> {
     let mut sheet = opened(parts(rt.alloc(), 2, 4, 8)?)?;
-    assert!(rt; sheet.insert(term(4095, 0, 0)) == Ok(0));
-    assert!(rt; sheet.insert(term(4096, 0, 0)) == Err(Refusal::UnfitElement));
-    assert!(rt; sheet.withdraw(&term(4096, 0, 0)) == Err(Refusal::UnfitElement));
-    assert!(rt; sheet.withdraw(&term(1, 0, 0)) == Err(Refusal::NotARow));
-    assert!(rt; sheet.insert(term(4095, 0, 0)) == Err(Refusal::AlreadyARow));
+    assert_eq!(rt; sheet.insert(term(4095, 0, 0)), Ok(0));
+    assert_eq!(rt; sheet.insert(term(4096, 0, 0)), Err(Refusal::UnfitElement));
+    assert_eq!(rt;
+        sheet.withdraw(&term(4096, 0, 0)),
+        Err(Refusal::UnfitElement)
+    );
+    assert_eq!(rt; sheet.withdraw(&term(1, 0, 0)), Err(Refusal::NotARow));
+    assert_eq!(rt; sheet.insert(term(4095, 0, 0)), Err(Refusal::AlreadyARow));
     Ok(())
 }
 
 // Inserts the powers of x1 from 1 to 64.
 fn fill(rt: &impl Abort, sheet: &mut OpenSheet<PlainTerm>) {
     for (place, power) in (1..=64).enumerate() {
-        assert!(rt; sheet.insert(term(power, 0, 0)) == Ok(place));
+        assert_eq!(rt; sheet.insert(term(power, 0, 0)), Ok(place));
     }
 }
 
@@ -63,32 +72,44 @@ fn fill(rt: &impl Abort, sheet: &mut OpenSheet<PlainTerm>) {
 fn the_65th_row(rt: HostRuntime) -> Result<(), Fail> {
     let mut sheet = opened(parts(rt.alloc(), 2, 64, 8)?)?;
     fill(&rt, &mut sheet);
-    assert!(rt; sheet.insert(term(0, 1, 0)) == Err(Refusal::TableFull));
-    assert!(rt; sheet.insert(term(3, 0, 0)) == Err(Refusal::AlreadyARow));
-    assert!(rt; sheet.withdraw(&term(1, 0, 0)) == Ok(()));
-    assert!(rt; sheet.insert(term(0, 1, 0)) == Ok(63));
+    assert_eq!(rt; sheet.insert(term(0, 1, 0)), Err(Refusal::TableFull));
+    assert_eq!(rt; sheet.insert(term(3, 0, 0)), Err(Refusal::AlreadyARow));
+    assert_eq!(rt; sheet.withdraw(&term(1, 0, 0)), Ok(()));
+    assert_eq!(rt; sheet.insert(term(0, 1, 0)), Ok(63));
     Ok(())
 }
 
 #[test]
 fn altered_parts_are_no_sheet(rt: HostRuntime) -> Result<(), Fail> {
     let mut sheet = opened(parts(rt.alloc(), 2, 4, 8)?)?;
-    assert!(rt; sheet.arrange(&[2, 1, 0, 0, 0, 0, 0, 0]) == Ok(()));
-    assert!(rt; sheet.arrange(&[1, 0, 0, 0, 0, 0, 0, 0]) == Err(Refusal::NotAnOrdering));
+    assert_eq!(rt; sheet.arrange(&[2, 1, 0, 0, 0, 0, 0, 0]), Ok(()));
+    assert_eq!(rt;
+        sheet.arrange(&[1, 0, 0, 0, 0, 0, 0, 0]),
+        Err(Refusal::NotAnOrdering)
+    );
     sheet.parts.header.rows = 2;
-    assert!(rt; sheet.insert(term(1, 0, 0)) == Err(Refusal::NotASheet));
-    assert!(rt; sheet.arrange(&[1, 2, 0, 0, 0, 0, 0, 0]) == Err(Refusal::NotASheet));
+    assert_eq!(rt; sheet.insert(term(1, 0, 0)), Err(Refusal::NotASheet));
+    assert_eq!(rt;
+        sheet.arrange(&[1, 2, 0, 0, 0, 0, 0, 0]),
+        Err(Refusal::NotASheet)
+    );
     sheet.parts.header.rows = 0;
-    assert!(rt; sheet.insert(term(1, 0, 0)) == Ok(0));
+    assert_eq!(rt; sheet.insert(term(1, 0, 0)), Ok(0));
     Ok(())
 }
 
 #[test]
 fn families_differ(rt: HostRuntime) -> Result<(), Fail> {
     let mut sheet = opened(blank_parts::<Derivative>(rt.alloc(), 1, 3)?)?;
-    assert!(rt; sheet.insert(derivative(1, 1, 0)) == Ok(0));
-    assert!(rt; sheet.insert(derivative(2, 1, 0)) == Ok(1));
-    assert!(rt; sheet.insert(derivative(2, 1, 0)) == Err(Refusal::AlreadyARow));
-    assert!(rt; sheet.insert(derivative(0, 1, 0)) == Err(Refusal::UnfitElement));
+    assert_eq!(rt; sheet.insert(derivative(1, 1, 0)), Ok(0));
+    assert_eq!(rt; sheet.insert(derivative(2, 1, 0)), Ok(1));
+    assert_eq!(rt;
+        sheet.insert(derivative(2, 1, 0)),
+        Err(Refusal::AlreadyARow)
+    );
+    assert_eq!(rt;
+        sheet.insert(derivative(0, 1, 0)),
+        Err(Refusal::UnfitElement)
+    );
     Ok(())
 }

@@ -15,7 +15,7 @@ pub(crate) fn derivative(family: u8, x1: u16, x2: u16) -> Derivative {
     <Derivative as Element>::make(family, [x1, x2, 0, 0, 0, 0, 0, 0])
 }
 
-// The three terms that Janet division makes complete under 2,1 alone, and Janet-like division under 1,2 too.
+// Three terms that are complete by Janet under 2,1 alone, and by Janet-like under 1,2 too.
 pub(crate) fn three() -> [PlainTerm; 3] {
     [term(3, 0, 0), term(1, 1, 0), term(0, 2, 0)]
 }

@@ -13,21 +13,36 @@ fn found<E: Element, D: Division>(division: &D, rows: &[E], n: u8) -> (u32, Opti
 #[test]
 fn four_terms(rt: HostRuntime) {
     let rows = [term(1, 0, 0), term(2, 0, 0), term(0, 1, 0), term(1, 0, 1)];
-    assert!(rt; found(&Janet, &rows, 3) == (3, Some([1, 2, 3, 0, 0, 0, 0, 0])));
+    assert_eq!(rt;
+        found(&Janet, &rows, 3),
+        (3, Some([1, 2, 3, 0, 0, 0, 0, 0]))
+    );
 }
 
 #[test]
 fn three_terms(rt: HostRuntime) {
     let rows = three();
-    assert!(rt; found(&Janet, &rows, 2) == (3, Some([2, 1, 0, 0, 0, 0, 0, 0])));
-    assert!(rt; found(&JanetLike, &rows, 2) == (2, Some([1, 2, 0, 0, 0, 0, 0, 0])));
+    assert_eq!(rt;
+        found(&Janet, &rows, 2),
+        (3, Some([2, 1, 0, 0, 0, 0, 0, 0]))
+    );
+    assert_eq!(rt;
+        found(&JanetLike, &rows, 2),
+        (2, Some([1, 2, 0, 0, 0, 0, 0, 0]))
+    );
 }
 
 #[test]
 fn two_terms(rt: HostRuntime) {
     let rows = [term(2, 0, 0), term(0, 2, 0)];
-    assert!(rt; found(&Janet, &rows, 2) == (2, None));
-    assert!(rt; found(&JanetLike, &rows, 2) == (2, Some([1, 2, 0, 0, 0, 0, 0, 0])));
+    assert_eq!(rt; found(&Janet, &rows, 2), (2, None));
+    assert_eq!(rt;
+        found(&JanetLike, &rows, 2),
+        (2, Some([1, 2, 0, 0, 0, 0, 0, 0]))
+    );
     let families = [derivative(1, 2, 0), derivative(2, 0, 2)];
-    assert!(rt; found(&Janet, &families, 2) == (2, Some([1, 2, 0, 0, 0, 0, 0, 0])));
+    assert_eq!(rt;
+        found(&Janet, &families, 2),
+        (2, Some([1, 2, 0, 0, 0, 0, 0, 0]))
+    );
 }

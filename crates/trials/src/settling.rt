@@ -55,10 +55,10 @@ fn refused(sheet: OpenSheet<PlainTerm>) -> Result<Denied<OpenSheet<PlainTerm>>, 
 
 // Cones of the three terms by Janet under 2,1.
 fn check_cones(rt: &impl Abort, sheet: &SettledSheet<PlainTerm, Janet>) {
-    assert!(rt; sheet.locate(&term(2, 2, 0)) == Ok(2));
-    assert!(rt; sheet.locate(&term(65535, 1, 0)) == Ok(1));
-    assert!(rt; sheet.locate(&term(2, 0, 0)) == Err(Refusal::NoCone));
-    assert!(rt; sheet.locate(&term(3, 0, 1)) == Err(Refusal::UnfitElement));
+    assert_eq!(rt; sheet.locate(&term(2, 2, 0)), Ok(2));
+    assert_eq!(rt; sheet.locate(&term(65535, 1, 0)), Ok(1));
+    assert_eq!(rt; sheet.locate(&term(2, 0, 0)), Err(Refusal::NoCone));
+    assert_eq!(rt; sheet.locate(&term(3, 0, 1)), Err(Refusal::UnfitElement));
 }
 
 #[test]
@@ -68,24 +68,24 @@ fn three_terms_by_both_divisions(rt: HostRuntime) -> Result<(), Fail> {
         parts: parts(rt.alloc(), &rows)?,
     };
     let Settling { sheet, served } = settled(open, Janet)?;
-    assert!(rt;
-        served
-            == Served {
-                tested: 3,
-                ordering: DOWN,
-            }
+    assert_eq!(rt;
+        served,
+        Served {
+            tested: 3,
+            ordering: DOWN,
+        }
     );
     assert!(rt; holds(&sheet.parts, &rows, 3, &DOWN));
     check_cones(&rt, &sheet);
     let reopened = sheet.reopen().map_err(|denied| Fail::new(denied.why))?;
     assert!(rt; holds(&reopened.parts, &rows, 3, &DOWN));
     let Settling { sheet, served } = settled(reopened, JanetLike)?;
-    assert!(rt;
-        served
-            == Served {
-                tested: 2,
-                ordering: UP,
-            }
+    assert_eq!(rt;
+        served,
+        Served {
+            tested: 2,
+            ordering: UP,
+        }
     );
     assert!(rt; holds(&sheet.parts, &rows, 3, &UP));
     Ok(())
@@ -99,16 +99,16 @@ fn settling_refused(rt: HostRuntime) -> Result<(), Fail> {
     };
     open.parts.header.rows = 2;
     let mut denied = refused(open)?;
-    assert!(rt; denied.why == Refusal::NoOrdering(2));
+    assert_eq!(rt; denied.why, Refusal::NoOrdering(2));
     assert!(rt; holds(&denied.back.parts, &places, 2, &UP));
     // places that hold no row but are not blank
     denied.back.parts.header.rows = 0;
-    assert!(rt; refused(denied.back)?.why == Refusal::NotASheet);
+    assert_eq!(rt; refused(denied.back)?.why, Refusal::NotASheet);
     let mut empty = OpenSheet {
         parts: parts(rt.alloc(), &[term(0, 0, 0); 3])?,
     };
     empty.parts.header.rows = 0;
-    assert!(rt; refused(empty)?.why == Refusal::NoRows);
+    assert_eq!(rt; refused(empty)?.why, Refusal::NoRows);
     Ok(())
 }
 
@@ -148,8 +148,8 @@ fn a_run_by_both_divisions(rt: HostRuntime) -> Result<(), Fail> {
     let blanks = [term(0, 0, 0); 3];
     match replay(rt.alloc(), parts(rt.alloc(), &blanks)?, &calls) {
         Ok(Replayed { sheet: _, replies }) => {
-            assert!(rt; replies.as_slice() == told.as_slice());
-            assert!(rt; u8::from(Refusal::NoOrdering(2)) == 16);
+            assert_eq!(rt; replies.as_slice(), told.as_slice());
+            assert_eq!(rt; u8::from(Refusal::NoOrdering(2)), 16);
             Ok(())
         }
         Err(NotReplayed::Unopened(denied)) => Err(Fail::new(denied.why)),

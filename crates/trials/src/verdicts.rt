@@ -3,7 +3,7 @@ use crate::making::*;
 use barcode::Ranked;
 use cones::holding::Limited;
 use cones::judging::limits_by;
-use divisions::{Division, Janet, JanetLike};
+use divisions::{Janet, JanetLike};
 use elements::PlainTerm;
 use orderings::refusals::Refusal;
 use sheets::parts::*;
@@ -50,34 +50,34 @@ fn short(element: PlainTerm, variable: u8) -> Verdict<PlainTerm> {
 fn six_terms(rt: HostRuntime) -> Result<(), Fail> {
     let first = term(5, 0, 0);
     let mut sheet = sheet(&rt, &six())?;
-    assert!(rt; sheet.weigh(&JanetLike, &DOWN) == Ok(complete(first)));
-    assert!(rt; sheet.weigh(&Janet, &DOWN) == Ok(short(first, 3)));
+    assert_eq!(rt; sheet.weigh(&JanetLike, &DOWN), Ok(complete(first)));
+    assert_eq!(rt; sheet.weigh(&Janet, &DOWN), Ok(short(first, 3)));
     assert!(rt; sheet.arrange(&DOWN).is_ok());
-    assert!(rt; sheet.verdict(&JanetLike) == Ok(complete(first)));
-    assert!(rt; sheet.verdict(&Janet) == Ok(short(first, 3)));
+    assert_eq!(rt; sheet.verdict(&JanetLike), Ok(complete(first)));
+    assert_eq!(rt; sheet.verdict(&Janet), Ok(short(first, 3)));
     Ok(())
 }
 
 #[test]
 fn a_set_and_its_completion(rt: HostRuntime) -> Result<(), Fail> {
     let less = sheet(&rt, &[term(3, 1, 1), term(5, 2, 1)])?;
-    assert!(rt; less.weigh(&JanetLike, &DOWN) == Ok(short(term(3, 1, 1), 2)));
+    assert_eq!(rt; less.weigh(&JanetLike, &DOWN), Ok(short(term(3, 1, 1), 2)));
     let more = sheet(&rt, &[term(3, 1, 1), term(3, 2, 1), term(5, 2, 1)])?;
-    assert!(rt; more.weigh(&JanetLike, &DOWN) == Ok(complete(term(3, 1, 1))));
+    assert_eq!(rt; more.weigh(&JanetLike, &DOWN), Ok(complete(term(3, 1, 1))));
     let four = sheet(
         &rt,
         &[term(3, 0, 0), term(0, 3, 0), term(4, 1, 1), term(0, 0, 2)],
     )?;
-    assert!(rt; four.weigh(&Janet, &DOWN) == Ok(short(term(3, 0, 0), 2)));
+    assert_eq!(rt; four.weigh(&Janet, &DOWN), Ok(short(term(3, 0, 0), 2)));
     Ok(())
 }
 
 #[test]
 fn no_verdict_on_an_empty_sheet(rt: HostRuntime) -> Result<(), Fail> {
     let empty = sheet(&rt, &[])?;
-    assert!(rt; empty.verdict(&Janet) == Err(Refusal::NoRows));
-    assert!(rt; empty.weigh(&Janet, &DOWN) == Err(Refusal::NoRows));
-    assert!(rt; empty.weigh(&Janet, &[3, 2]) == Err(Refusal::NotAnOrdering));
+    assert_eq!(rt; empty.verdict(&Janet), Err(Refusal::NoRows));
+    assert_eq!(rt; empty.weigh(&Janet, &DOWN), Err(Refusal::NoRows));
+    assert_eq!(rt; empty.weigh(&Janet, &[3, 2]), Err(Refusal::NotAnOrdering));
     assert!(rt; u8::from(Refusal::NoRows) == 12 && u8::from(Refusal::NotAnOrdering) == 11);
     Ok(())
 }
@@ -95,9 +95,9 @@ fn cones_of_three_terms(rt: HostRuntime) {
         limits: &limits,
         n: 2,
     };
-    assert!(rt; limited.cone_of(&term(2, 2, 0)) == Some(2));
-    assert!(rt; limited.cone_of(&term(2, 0, 0)) == None);
-    assert!(rt; limited.cone_of(&term(65535, 0, 0)) == Some(0));
-    assert!(rt; limited.cone_of(&term(65535, 1, 0)) == Some(1));
-    assert!(rt; limited.cone_of(&term(7, 65535, 0)) == Some(2));
+    assert_eq!(rt; limited.cone_of(&term(2, 2, 0)), Some(2));
+    assert_eq!(rt; limited.cone_of(&term(2, 0, 0)), None);
+    assert_eq!(rt; limited.cone_of(&term(65535, 0, 0)), Some(0));
+    assert_eq!(rt; limited.cone_of(&term(65535, 1, 0)), Some(1));
+    assert_eq!(rt; limited.cone_of(&term(7, 65535, 0)), Some(2));
 }
