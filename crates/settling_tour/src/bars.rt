@@ -17,13 +17,13 @@ pub(crate) fn tell(page: &Page, sheet: &OpenSheet<PlainTerm>) {
     println!(page; "Its Bar Code under {listed}; a star stands for a variable without a limit:");
     for (place, row) in table.iter().take(header.rows as usize).enumerate() {
         println!(page; "  place {place}, {}", Monomial(&row.exponents()));
-        for variable in order {
+        for variable in order.iter().take(header.variables as usize) {
             tell_bar(page, sheet, place, *variable);
         }
     }
 }
 
-// The bar under a row, where the number is one of a variable.
+// The bar of a variable under a row.
 fn tell_bar(page: &Page, sheet: &OpenSheet<PlainTerm>, place: usize, variable: u8) {
     if let Ok(Bar { number, star }) = sheet.bar(place, variable) {
         print!(page; "    over bar {number} of x{variable}");

@@ -1,6 +1,7 @@
 // The prefixes that are tried for an ordering of 2 variables. A prefix is the first entries of an ordering.
 use crate::calls::*;
 use crate::page::Page;
+use crate::{DOWN, UP};
 use barcode::Ranked;
 use cones::holding::Limited;
 use cones::judging::limits_by;
@@ -11,7 +12,7 @@ use lines::written::Listed;
 // The prefixes that are tested, each live or dead, up to the first ordering that serves.
 pub(crate) fn tell(page: &Page, rows: &[PlainTerm; 3], division: &Either) {
     println!(page; "  by {}:", name(division));
-    for order in [[1, 2, 0, 0, 0, 0, 0, 0], [2, 1, 0, 0, 0, 0, 0, 0]] {
+    for order in [UP, DOWN] {
         let ranked = Ranked {
             rows,
             order: &order,

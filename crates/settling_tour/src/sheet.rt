@@ -1,17 +1,13 @@
 // A sheet from its opening to its settling, and a run of calls on another.
 use crate::calls::*;
 use crate::page::Page;
-use crate::{bars, prefixes, term};
+use crate::{DOWN, UP, bars, prefixes, term};
 use elements::PlainTerm;
 use runs::replaying::{NotReplayed, replay};
 use runs::requests::*;
 use sheets::opening::open;
 use sheets::parts::*;
 use std::alloc::{AllocError, Global};
-
-const UP: [u8; 8] = [1, 2, 0, 0, 0, 0, 0, 0];
-
-const DOWN: [u8; 8] = [2, 1, 0, 0, 0, 0, 0, 0];
 
 pub(crate) fn tell(page: &Page, parts: Parts<PlainTerm>, set: &[PlainTerm; 3]) {
     match open(parts) {

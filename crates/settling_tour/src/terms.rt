@@ -1,5 +1,6 @@
 // The set x1^3, x1 x2, x2^2: which divides which, and how they compare.
 use crate::page::Page;
+use crate::{DOWN, UP};
 use elements::{Element, PlainTerm, quotient, times_power};
 use lines::written::{Listed, Monomial};
 use orderings::comparing::{Comparison, compare};
@@ -15,8 +16,8 @@ pub(crate) fn tell(page: &Page, set: &[PlainTerm; 3]) {
     println!(page);
     tell_divisors(page, set);
     tell_product(page, set);
-    tell_order(page, set, &[1, 2, 0, 0, 0, 0, 0, 0]);
-    tell_order(page, set, &[2, 1, 0, 0, 0, 0, 0, 0]);
+    tell_order(page, set, &UP);
+    tell_order(page, set, &DOWN);
 }
 
 // For each pair of different terms, whether one divides the other.

@@ -1,4 +1,5 @@
 // The search for an ordering that makes the rows complete.
+use crate::{DOWN, UP};
 use barcode::Ranked;
 use cones::holding::Limited;
 use cones::judging::limits_by;
@@ -23,7 +24,7 @@ fn tell_search<D: Division>(
     division: &D,
 ) -> io::Result<()> {
     println!(rt; "  by {name}:")?;
-    for order in [[1, 2, 0, 0, 0, 0, 0, 0], [2, 1, 0, 0, 0, 0, 0, 0]] {
+    for order in [UP, DOWN] {
         let ranked = Ranked {
             rows,
             order: &order,

@@ -1,5 +1,5 @@
 // The set on a sheet of four places: open, insert, withdraw, arrange, and what is refused.
-use crate::{bars, verdicts};
+use crate::{DOWN, bars, verdicts};
 use elements::{Element, PlainTerm, blank};
 use lines::written::{Listed, Monomial};
 use orderings::refusals::Refusal;
@@ -43,7 +43,7 @@ fn tell_edits(
     bars::tell(rt, &sheet)?;
     println!(rt)?;
     println!(rt; "The same sheet:")?;
-    tell_arrange(rt, &mut sheet, &[2, 1, 0, 0, 0, 0, 0, 0])?;
+    tell_arrange(rt, &mut sheet, &DOWN)?;
     show(rt, &sheet.parts)?;
     println!(rt)?;
     bars::tell(rt, &sheet)?;

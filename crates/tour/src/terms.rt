@@ -1,4 +1,5 @@
 // The set x1^3, x1 x2, x2^2: which divides which, and how they compare.
+use crate::{DOWN, UP};
 use elements::{Element, PlainTerm, quotient, times_power};
 use lines::written::{Listed, Monomial};
 use orderings::comparing::{Comparison, compare};
@@ -17,9 +18,9 @@ pub(crate) fn tell(rt: &HostRuntime, set: &[PlainTerm; 3]) -> io::Result<()> {
     println!(rt)?;
     tell_product(rt, set)?;
     println!(rt)?;
-    tell_order(rt, set, &[1, 2, 0, 0, 0, 0, 0, 0])?;
+    tell_order(rt, set, &UP)?;
     println!(rt)?;
-    tell_order(rt, set, &[2, 1, 0, 0, 0, 0, 0, 0])?;
+    tell_order(rt, set, &DOWN)?;
     println!(rt)?;
     tell_order(rt, &set[0..2], &[1, 1, 0, 0, 0, 0, 0, 0])
 }

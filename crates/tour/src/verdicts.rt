@@ -1,5 +1,6 @@
 // Whether the sheet's rows are complete, by two divisions under two orderings.
 use crate::sheet::tell_refusal;
+use crate::{DOWN, UP};
 use divisions::{Division, Janet, JanetLike};
 use elements::{Element, PlainTerm, times_power};
 use lines::written::{Listed, Monomial};
@@ -8,7 +9,7 @@ use std::io;
 
 pub(crate) fn tell(rt: &HostRuntime, sheet: &OpenSheet<PlainTerm>) -> io::Result<()> {
     println!(rt; "Are its rows complete, that is, does every multiple of a row lie in a cone?")?;
-    for order in [[1, 2, 0, 0, 0, 0, 0, 0], [2, 1, 0, 0, 0, 0, 0, 0]] {
+    for order in [UP, DOWN] {
         tell_verdict(rt, sheet, "Janet", &Janet, &order)?;
         tell_verdict(rt, sheet, "Janet-like", &JanetLike, &order)?;
     }
