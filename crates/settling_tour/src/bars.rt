@@ -1,45 +1,47 @@
 // The Bar Code of the rows of an open sheet, and the limits of two divisions.
 use crate::calls::*;
 use crate::page::Page;
-use divisions::Division;
-use elements::PlainTerm;
+use elements::{Element, PlainTerm};
+use lines::written::{Listed, Monomial};
 use sheets::parts::*;
 
 // For each row its bars, that of the greatest variable first.
 pub(crate) fn tell(page: &Page, sheet: &OpenSheet<PlainTerm>) {
-    page.order("\nIts Bar Code under ", &sheet.parts.order);
-    page.say("; a star stands for a variable without a limit:\n");
-    for (place, term) in sheet.parts.table.iter().enumerate() {
-        if place < sheet.parts.header.rows as usize {
-            page.number("  place ", place);
-            page.term(", ", term);
-            page.say("\n");
-            for variable in sheet.parts.order.iter() {
-                tell_bar(page, sheet, place, *variable);
-            }
+    let Parts {
+        table,
+        order,
+        header,
+    } = &sheet.parts;
+    let listed = Listed(order);
+    println!(page);
+    println!(page; "Its Bar Code under {listed}; a star stands for a variable without a limit:");
+    for (place, row) in table.iter().take(header.rows as usize).enumerate() {
+        println!(page; "  place {place}, {}", Monomial(&row.exponents()));
+        for variable in order.iter().take(header.variables as usize) {
+            tell_bar(page, sheet, place, *variable);
         }
     }
 }
 
-// The bar under a row, where the number is one of a variable.
+// The bar of a variable under a row.
 fn tell_bar(page: &Page, sheet: &OpenSheet<PlainTerm>, place: usize, variable: u8) {
     if let Ok(Bar { number, star }) = sheet.bar(place, variable) {
-        page.number("    over bar ", number);
-        page.number(" of x", variable as usize);
+        print!(page; "    over bar {number} of x{variable}");
         if star {
-            page.say(" *\n");
+            println!(page; " *");
         } else {
-            page.number(", limit ", limit(sheet, &JANET, place, variable));
-            page.number(" by Janet and ", limit(sheet, &JANET_LIKE, place, variable));
-            page.say(" by Janet-like\n");
+            let janet = limit(sheet, &JANET, place, variable);
+            let janet_like = limit(sheet, &JANET_LIKE, place, variable);
+            println!(page; ", limit {janet} by Janet and {janet_like} by Janet-like");
         }
     }
 }
 
 // A limit, 0 for none.
-fn limit(sheet: &OpenSheet<PlainTerm>, division: &Either, place: usize, variable: u8) -> usize {
-    match sheet.limit(division, place, variable) {
-        Ok(Some(limit)) => limit as usize,
-        _ => 0,
-    }
+fn limit(sheet: &OpenSheet<PlainTerm>, division: &Either, place: usize, variable: u8) -> u16 {
+    sheet
+        .limit(division, place, variable)
+        .ok()
+        .flatten()
+        .unwrap_or(0)
 }

@@ -1,7 +1,8 @@
 // Calls on a sheet, told in words with what is replied.
 use crate::page::Page;
 use divisions::{Janet, JanetLike, OneOf};
-use elements::{PlainTerm, times_power};
+use elements::{Element, PlainTerm, times_power};
+use lines::written::{Listed, Monomial};
 use runs::requests::*;
 use runs::stepping::step;
 use sheets::parts::*;
@@ -31,63 +32,64 @@ pub(crate) fn perform(
     sheet
 }
 
-pub(crate) fn by_name(division: &Either) -> &'static str {
+pub(crate) fn name(division: &Either) -> &'static str {
     match division {
-        OneOf::First(_) => " by Janet",
-        OneOf::Second(_) => " by Janet-like",
+        OneOf::First(_) => "Janet",
+        OneOf::Second(_) => "Janet-like",
     }
 }
 
-pub(crate) fn tell_call(page: &Page, call: &Call<'_>) {
+fn tell_call(page: &Page, call: &Call<'_>) {
     match call {
-        Request::Insert(term) => page.term("  insert ", term),
-        Request::Withdraw(term) => page.term("  withdraw ", term),
-        Request::Locate(term) => page.term("  locate ", term),
-        Request::Arrange(list) => page.order("  arrange ", list),
-        Request::Weigh(by, list) => {
-            page.order("  under ", list);
-            page.say(by_name(by));
+        Request::Insert(term) => print!(page; "  insert {}: ", Monomial(&term.exponents())),
+        Request::Withdraw(term) => print!(page; "  withdraw {}: ", Monomial(&term.exponents())),
+        Request::Locate(term) => print!(page; "  locate {}: ", Monomial(&term.exponents())),
+        Request::Arrange(list) => print!(page; "  arrange {}: ", Listed(list)),
+        Request::Weigh(by, list) => print!(page; "  under {} by {}: ", Listed(list), name(by)),
+        Request::Settle(by) => print!(page; "  settle by {}: ", name(by)),
+        Request::Reopen => print!(page; "  reopen: "),
+        Request::Verdict(_) | Request::Bar(_, _) | Request::Limit(_, _, _) => {
+            print!(page; "  read: ")
         }
-        Request::Settle(by) => {
-            page.say("  settle");
-            page.say(by_name(by));
-        }
-        Request::Reopen => page.say("  reopen"),
-        Request::Verdict(_) | Request::Bar(_, _) | Request::Limit(_, _, _) => page.say("  read"),
     }
-    page.say(": ");
 }
 
 pub(crate) fn tell_reply(page: &Page, reply: &Reply<PlainTerm>) {
     match reply {
-        Reply::Done | Reply::Bar(_) | Reply::Limit(_) => page.say("done.\n"),
-        Reply::Place(place) => {
-            page.number("place ", *place);
-            page.say(".\n");
+        Ok(Grant::Done | Grant::Bar(_) | Grant::Limit(_)) => println!(page; "done."),
+        Ok(Grant::Place(place)) => println!(page; "place {place}."),
+        Ok(Grant::Verdict(verdict)) => tell_verdict(page, verdict),
+        Ok(Grant::Settled(served)) => tell_served(page, served),
+        Err(NotGranted::NotTaken) => {
+            println!(page; "not taken, the sheet is not in the state for it.")
         }
-        Reply::Verdict(verdict) => tell_verdict(page, verdict),
-        Reply::Settled(served) => tell_served(page, served),
-        Reply::NotTaken => page.say("not taken, the sheet is not in the state for it.\n"),
-        Reply::Refused(refusal) => page.refusal(*refusal),
+        Err(NotGranted::Refused(refusal)) => page.refusal(*refusal),
     }
 }
 
 fn tell_served(page: &Page, served: &Served) {
-    page.order("settled under ", &served.ordering);
-    page.number("; prefixes tested: ", served.tested as usize);
-    page.say(".\n");
+    let (tested, listed) = (served.tested, Listed(&served.ordering));
+    println!(page; "settled under {listed}; prefixes tested: {tested}.");
 }
 
 fn tell_verdict(page: &Page, verdict: &Verdict<PlainTerm>) {
-    if verdict.complete {
-        page.say("yes.\n");
+    let Verdict {
+        complete,
+        element,
+        place: _,
+        variable,
+        power,
+    } = verdict;
+    if *complete {
+        println!(page; "yes.");
         return;
     }
-    page.term("no, ", &verdict.element);
-    page.number(" times x", verdict.variable as usize);
-    page.number("^", verdict.power as usize);
-    if let Some(product) = times_power(&verdict.element, verdict.variable, verdict.power) {
-        page.term(", which is ", &product);
+    print!(page;
+        "no, {} times x{variable}^{power}",
+        Monomial(&element.exponents())
+    );
+    if let Some(product) = times_power(element, *variable, *power) {
+        print!(page; ", which is {}", Monomial(&product.exponents()));
     }
-    page.say(", lies in no cone.\n");
+    println!(page; ", lies in no cone.");
 }

@@ -14,6 +14,12 @@ use sheets::parts::*;
 use std::alloc::{AllocError, Global};
 use std::io;
 
+// The ordering 1,2.
+const UP: [u8; 8] = [1, 2, 0, 0, 0, 0, 0, 0];
+
+// The ordering 2,1.
+const DOWN: [u8; 8] = [2, 1, 0, 0, 0, 0, 0, 0];
+
 // The term with these exponents of x1 and x2.
 fn term(x1: u16, x2: u16) -> PlainTerm {
     <PlainTerm as Element>::make(0, [x1, x2, 0, 0, 0, 0, 0, 0])

@@ -1,24 +1,23 @@
 // A sheet from its opening to its settling, and a run of calls on another.
 use crate::calls::*;
 use crate::page::Page;
-use crate::{bars, prefixes, term};
+use crate::{DOWN, UP, bars, prefixes, term};
 use elements::PlainTerm;
-use runs::replaying::{Outcome, replay};
+use runs::replaying::{NotReplayed, replay};
 use runs::requests::*;
 use sheets::opening::open;
 use sheets::parts::*;
 use std::alloc::{AllocError, Global};
-
-const UP: [u8; 8] = [1, 2, 0, 0, 0, 0, 0, 0];
-
-const DOWN: [u8; 8] = [2, 1, 0, 0, 0, 0, 0, 0];
 
 pub(crate) fn tell(page: &Page, parts: Parts<PlainTerm>, set: &[PlainTerm; 3]) {
     match open(parts) {
         Ok(open) => {
             let edited = tell_edits(page, Sheet::Open(open), set);
             let weighed = tell_verdicts(page, edited);
-            page.say("\nWhich prefixes are tested for an ordering that makes the rows complete?\n");
+            println!(page);
+            println!(page;
+                "Which prefixes are tested for an ordering that makes the rows complete?"
+            );
             prefixes::tell(page, set, &JANET);
             prefixes::tell(page, set, &JANET_LIKE);
             tell_settling(page, weighed);
@@ -35,7 +34,8 @@ fn tell_edits(
 ) -> Sheet<PlainTerm, Either> {
     let [a, b, c] = *set;
     let other = term(0, 1);
-    page.say("\nA sheet of 4 places for 2 variables:\n");
+    println!(page);
+    println!(page; "A sheet of 4 places for 2 variables:");
     let calls = [
         Request::Insert(other),
         Request::Insert(a),
@@ -52,10 +52,12 @@ fn tell_edits(
 
 fn tell_verdicts(page: &Page, sheet: Sheet<PlainTerm, Either>) -> Sheet<PlainTerm, Either> {
     tell_bars(page, &sheet);
-    page.say("\nThe same sheet:\n");
+    println!(page);
+    println!(page; "The same sheet:");
     let arranged = perform(page, sheet, &[Request::Arrange(&DOWN)]);
     tell_bars(page, &arranged);
-    page.say("\nAre its rows complete, that is, does every multiple of a row lie in a cone?\n");
+    println!(page);
+    println!(page; "Are its rows complete, that is, does every multiple of a row lie in a cone?");
     let calls = [
         Request::Weigh(JANET, &UP),
         Request::Weigh(JANET_LIKE, &UP),
@@ -73,8 +75,9 @@ fn tell_bars(page: &Page, sheet: &Sheet<PlainTerm, Either>) {
 
 // Settles the sheet by one division and, reopened, by the other.
 fn tell_settling(page: &Page, sheet: Sheet<PlainTerm, Either>) {
-    page.say(
-        "\nThe sheet is settled by the first ordering that serves, and then takes no edits:\n",
+    println!(page);
+    println!(page;
+        "The sheet is settled by the first ordering that serves, and then takes no edits:"
     );
     let calls = [
         Request::Settle(JANET),
@@ -94,10 +97,11 @@ pub(crate) fn tell_run(
     heap: Global,
     parts: Parts<PlainTerm>,
 ) -> Result<(), AllocError> {
-    page.say(
-        "\nA whole run on a sheet of its own: x1^2 and x2^2 are inserted, weighed by Janet under 1,2,\n",
+    println!(page);
+    println!(page;
+        "A whole run on a sheet of its own: x1^2 and x2^2 are inserted, weighed by Janet under 1,2,"
     );
-    page.say("settled by Janet, settled by Janet-like, and x1 x2^5 is located. The replies:\n");
+    println!(page; "settled by Janet, settled by Janet-like, and x1 x2^5 is located. The replies:");
     let calls = [
         Request::Insert(term(2, 0)),
         Request::Insert(term(0, 2)),
@@ -106,16 +110,17 @@ pub(crate) fn tell_run(
         Request::Settle(JANET_LIKE),
         Request::Locate(term(1, 5)),
     ];
-    match &replay(heap, parts, &calls)? {
-        Outcome::Ran(_, replies) => tell_replies(page, replies),
-        Outcome::Unopened(denied) => page.refusal(denied.why),
+    match replay(heap, parts, &calls) {
+        Ok(replayed) => tell_replies(page, &replayed.replies),
+        Err(NotReplayed::Unopened(denied)) => page.refusal(denied.why),
+        Err(NotReplayed::OutOfMemory) => return Err(AllocError),
     }
     Ok(())
 }
 
 fn tell_replies(page: &Page, replies: &[Reply<PlainTerm>]) {
     for reply in replies {
-        page.say("  ");
+        print!(page; "  ");
         tell_reply(page, reply);
     }
 }

@@ -1,66 +1,89 @@
 // The set x1^3, x1 x2, x2^2: which divides which, and how they compare.
 use crate::page::Page;
+use crate::{DOWN, UP};
 use elements::{Element, PlainTerm, quotient, times_power};
+use lines::written::{Listed, Monomial};
 use orderings::comparing::{Comparison, compare};
 
 pub(crate) fn tell(page: &Page, set: &[PlainTerm; 3]) {
-    let [a, b, c] = set;
-    page.term("A set of three terms in 2 variables: ", a);
-    page.term(", ", b);
-    page.term(", ", c);
-    page.say(".\n\nWhich divides which:\n");
-    tell_pair(page, a, b);
-    tell_pair(page, a, c);
-    tell_pair(page, b, a);
-    tell_pair(page, b, c);
-    tell_pair(page, c, a);
-    tell_pair(page, c, b);
-    if let Some(multiple) = times_power(b, 1, 2) {
-        page.term("\nA multiple: ", b);
-        page.term(" times x1^2 is ", &multiple);
-        page.say(".\n");
-        tell_pair(page, a, &multiple);
-        tell_pair(page, b, &multiple);
-        tell_pair(page, c, &multiple);
+    let [a, b, c] = set.map(|term| term.exponents());
+    println!(page;
+        "A set of three terms in 2 variables: {}, {}, {}.",
+        Monomial(&a),
+        Monomial(&b),
+        Monomial(&c)
+    );
+    println!(page);
+    tell_divisors(page, set);
+    tell_product(page, set);
+    tell_order(page, set, &UP);
+    tell_order(page, set, &DOWN);
+}
+
+// For each pair of different terms, whether one divides the other.
+fn tell_divisors(page: &Page, set: &[PlainTerm; 3]) {
+    println!(page; "Which divides which:");
+    for u in set {
+        for w in set {
+            if u != w {
+                tell_pair(page, u, w);
+            }
+        }
     }
-    tell_order(page, set, &[1, 2, 0, 0, 0, 0, 0, 0]);
-    tell_order(page, set, &[2, 1, 0, 0, 0, 0, 0, 0]);
+}
+
+// A multiple of two of the terms at once.
+fn tell_product(page: &Page, set: &[PlainTerm; 3]) {
+    let [_, term, _] = set;
+    if let Some(multiple) = times_power(term, 1, 2) {
+        println!(page);
+        println!(page;
+            "A multiple: {} times x1^2 is {}.",
+            Monomial(&term.exponents()),
+            Monomial(&multiple.exponents())
+        );
+        for divisor in set {
+            tell_pair(page, divisor, &multiple);
+        }
+    }
 }
 
 // Whether u divides w.
 fn tell_pair(page: &Page, u: &PlainTerm, w: &PlainTerm) {
-    page.term("  ", u);
+    let (small, large) = (u.exponents(), w.exponents());
+    let (divisor, multiple) = (Monomial(&small), Monomial(&large));
     match quotient(u, w) {
-        Some(exponents) => {
-            page.term(" divides ", w);
-            page.term(
-                ", the quotient is ",
-                &<PlainTerm as Element>::make(0, exponents),
-            );
-        }
-        None => page.term(" does not divide ", w),
+        Some(term) => println!(page;
+            "  {divisor} divides {multiple}, the quotient is {}.",
+            Monomial(&term)
+        ),
+        None => println!(page; "  {divisor} does not divide {multiple}."),
     }
-    page.say(".\n");
 }
 
 // How the terms compare under an ordering.
 fn tell_order(page: &Page, set: &[PlainTerm; 3], order: &[u8; 8]) {
     let [a, b, c] = set;
-    page.order("\nCompared under ", order);
-    page.say(", the greatest variable first:\n");
-    tell_comparison(page, a, b, order);
-    tell_comparison(page, a, c, order);
-    tell_comparison(page, b, c, order);
+    println!(page);
+    println!(page;
+        "Compared under {}, the greatest variable first:",
+        Listed(order)
+    );
+    for (u, w) in [(a, b), (a, c), (b, c)] {
+        tell_comparison(page, u, w, order);
+    }
 }
 
 fn tell_comparison(page: &Page, u: &PlainTerm, w: &PlainTerm, order: &[u8; 8]) {
-    page.term("  ", u);
-    page.term(" against ", w);
-    page.say(": ");
+    print!(page;
+        "  {} against {}: ",
+        Monomial(&u.exponents()),
+        Monomial(&w.exponents())
+    );
     match compare(u, w, 2, order) {
-        Ok(Comparison::Below) => page.say("below.\n"),
-        Ok(Comparison::Same) => page.say("the same.\n"),
-        Ok(Comparison::Above) => page.say("above.\n"),
+        Ok(Comparison::Below) => println!(page; "below."),
+        Ok(Comparison::Same) => println!(page; "the same."),
+        Ok(Comparison::Above) => println!(page; "above."),
         Err(refusal) => page.refusal(refusal),
     }
 }

@@ -2,7 +2,6 @@
 #![tactic(auto)]
 
 mod bars;
-mod names;
 mod searching;
 mod sheet;
 mod terms;
@@ -10,6 +9,12 @@ mod verdicts;
 
 use elements::{Element, PlainTerm};
 use std::io;
+
+// The ordering 1,2.
+const UP: [u8; 8] = [1, 2, 0, 0, 0, 0, 0, 0];
+
+// The ordering 2,1.
+const DOWN: [u8; 8] = [2, 1, 0, 0, 0, 0, 0, 0];
 
 // The term with these exponents of x1 and x2.
 fn term(x1: u16, x2: u16) -> PlainTerm {

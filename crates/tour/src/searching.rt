@@ -1,8 +1,12 @@
 // The search for an ordering that makes the rows complete.
-use crate::names::*;
-use cones::shortfalls::first_shortfall;
+use crate::{DOWN, UP};
+use barcode::Ranked;
+use cones::holding::Limited;
+use cones::judging::limits_by;
+use cones::tables::Limits;
 use divisions::{Division, Janet, JanetLike};
 use elements::PlainTerm;
+use lines::written::Listed;
 use search::searching::{Found, search};
 use std::io;
 
@@ -20,65 +24,59 @@ fn tell_search<D: Division>(
     division: &D,
 ) -> io::Result<()> {
     println!(rt; "  by {name}:")?;
-    for order in [[1, 2, 0, 0, 0, 0, 0, 0], [2, 1, 0, 0, 0, 0, 0, 0]] {
-        if tell_prefix(rt, rows, division, &order, 1)?
-            && tell_prefix(rt, rows, division, &order, 2)?
+    for order in [UP, DOWN] {
+        let ranked = Ranked {
+            rows,
+            order: &order,
+        };
+        if tell_prefix(rt, &ranked, division, &order[..1])?
+            && tell_prefix(rt, &ranked, division, &order[..2])?
         {
             break;
         }
     }
-    match search(division, rows, 2) {
-        Found {
-            tested,
-            ordering: Some(order),
-        } => {
+    let Found { tested, ordering } = search(division, rows, 2);
+    match ordering {
+        Some(order) => {
             let listed = Listed(&order);
             println!(rt; "    {listed} serves; {tested} prefixes were tested")
         }
-        Found {
-            tested,
-            ordering: None,
-        } => println!(rt; "    no ordering serves; {tested} prefixes were tested"),
+        None => println!(rt; "    no ordering serves; {tested} prefixes were tested"),
     }
 }
 
-// The limits of the variables among the first entries of an ordering, and no others.
+// The limits that the division sets for the variables of a prefix, and none for any other.
 fn limits_of_prefix<D: Division>(
     division: &D,
-    rows: &[PlainTerm],
-    order: &[u8; 8],
-    entries: usize,
-) -> [[Option<u16>; 8]; 64] {
-    let mut table = [[None; 8]; 64];
-    for place in 0..64 {
-        if place < rows.len() {
-            for k in 0..8 {
-                let variable = order[k];
-                if k < entries && variable >= 1 && variable <= 8 {
-                    table[place][variable as usize - 1] = division.limit(
-                        rows, order, place, variable,
-                    );
-                }
+    ranked: &Ranked<PlainTerm>,
+    prefix: &[u8],
+) -> [Limits; 64] {
+    let mut table = limits_by(division, ranked, 2);
+    for limits in table.iter_mut() {
+        for (variable, limit) in (1..9).zip(limits.iter_mut()) {
+            if !prefix.contains(&variable) {
+                *limit = None;
             }
         }
     }
     table
 }
 
-// Whether the first entries of an ordering are a live prefix: with the limits of their variables alone there is no shortfall.
+// Whether a prefix is live: with the limits of its variables alone there is no shortfall.
 fn tell_prefix<D: Division>(
     rt: &HostRuntime,
-    rows: &[PlainTerm],
+    ranked: &Ranked<PlainTerm>,
     division: &D,
-    order: &[u8; 8],
-    entries: usize,
+    prefix: &[u8],
 ) -> io::Result<bool> {
-    let table = limits_of_prefix(division, rows, order, entries);
-    let live = first_shortfall(rows, &table, 2).is_none();
+    let limits = limits_of_prefix(division, ranked, prefix);
+    let limited = Limited {
+        rows: ranked.rows,
+        limits: &limits,
+        n: 2,
+    };
+    let live = limited.first_shortfall().is_none();
     let word = if live { "live" } else { "dead" };
-    if entries <= 8 {
-        let listed = Listed(&order[0..entries]);
-        println!(rt; "    prefix {listed} is {word}")?;
-    }
+    println!(rt; "    prefix {} is {word}", Listed(prefix))?;
     Ok(live)
 }

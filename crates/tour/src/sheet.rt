@@ -1,7 +1,7 @@
 // The set on a sheet of four places: open, insert, withdraw, arrange, and what is refused.
-use crate::names::*;
-use crate::{bars, verdicts};
-use elements::{PlainTerm, blank};
+use crate::{DOWN, bars, verdicts};
+use elements::{Element, PlainTerm, blank};
+use lines::written::{Listed, Monomial};
 use orderings::refusals::Refusal;
 use sheets::opening::open;
 use sheets::parts::*;
@@ -43,7 +43,7 @@ fn tell_edits(
     bars::tell(rt, &sheet)?;
     println!(rt)?;
     println!(rt; "The same sheet:")?;
-    tell_arrange(rt, &mut sheet, &[2, 1, 0, 0, 0, 0, 0, 0])?;
+    tell_arrange(rt, &mut sheet, &DOWN)?;
     show(rt, &sheet.parts)?;
     println!(rt)?;
     bars::tell(rt, &sheet)?;
@@ -52,9 +52,7 @@ fn tell_edits(
 }
 
 pub(crate) fn tell_refusal(rt: &HostRuntime, refusal: Refusal) -> io::Result<()> {
-    let number = refusal.number();
-    let why = reason(refusal);
-    println!(rt; "refused by {number}, {why}.")
+    println!(rt; "refused by {}, {refusal}.", u8::from(refusal))
 }
 
 fn tell_insert(
@@ -62,8 +60,7 @@ fn tell_insert(
     sheet: &mut OpenSheet<PlainTerm>,
     term: &PlainTerm,
 ) -> io::Result<()> {
-    let named = Named(term);
-    print!(rt; "  insert {named}: ")?;
+    print!(rt; "  insert {}: ", Monomial(&term.exponents()))?;
     match sheet.insert(*term) {
         Ok(place) => println!(rt; "it stands at place {place}."),
         Err(refusal) => tell_refusal(rt, refusal),
@@ -75,8 +72,7 @@ fn tell_withdraw(
     sheet: &mut OpenSheet<PlainTerm>,
     term: &PlainTerm,
 ) -> io::Result<()> {
-    let named = Named(term);
-    print!(rt; "  withdraw {named}: ")?;
+    print!(rt; "  withdraw {}: ", Monomial(&term.exponents()))?;
     match sheet.withdraw(term) {
         Ok(()) => println!(rt; "it is gone, and the later rows have moved down."),
         Err(refusal) => tell_refusal(rt, refusal),
@@ -84,8 +80,7 @@ fn tell_withdraw(
 }
 
 fn tell_arrange(rt: &HostRuntime, sheet: &mut OpenSheet<PlainTerm>, list: &[u8]) -> io::Result<()> {
-    let listed = Listed(list);
-    print!(rt; "  arrange {listed}: ")?;
+    print!(rt; "  arrange {}: ", Listed(list))?;
     match sheet.arrange(list) {
         Ok(()) => println!(rt; "it is the sheet's ordering."),
         Err(refusal) => tell_refusal(rt, refusal),
@@ -94,12 +89,10 @@ fn tell_arrange(rt: &HostRuntime, sheet: &mut OpenSheet<PlainTerm>, list: &[u8])
 
 // The rows by place, and the ordering.
 fn show(rt: &HostRuntime, parts: &Parts<PlainTerm>) -> io::Result<()> {
-    let listed = Listed(parts.order.as_slice());
-    println!(rt; "The table, with the ordering {listed}:")?;
+    println!(rt; "The table, with the ordering {}:", Listed(&parts.order))?;
     for (place, term) in parts.table.iter().enumerate() {
         if place < parts.header.rows as usize {
-            let named = Named(term);
-            println!(rt; "  {place}  {named}")?;
+            println!(rt; "  {place}  {}", Monomial(&term.exponents()))?;
         } else {
             println!(rt; "  {place}  (blank)")?;
         }

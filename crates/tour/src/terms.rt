@@ -1,20 +1,26 @@
 // The set x1^3, x1 x2, x2^2: which divides which, and how they compare.
-use crate::names::*;
-use elements::{PlainTerm, quotient, times_power};
+use crate::{DOWN, UP};
+use elements::{Element, PlainTerm, quotient, times_power};
+use lines::written::{Listed, Monomial};
 use orderings::comparing::{Comparison, compare};
 use std::io;
 
 pub(crate) fn tell(rt: &HostRuntime, set: &[PlainTerm; 3]) -> io::Result<()> {
-    let (a, b, c) = (Named(&set[0]), Named(&set[1]), Named(&set[2]));
-    println!(rt; "A set of three terms in 2 variables: {a}, {b}, {c}.")?;
+    let [a, b, c] = set.map(|term| term.exponents());
+    println!(rt;
+        "A set of three terms in 2 variables: {}, {}, {}.",
+        Monomial(&a),
+        Monomial(&b),
+        Monomial(&c)
+    )?;
     println!(rt)?;
     tell_divisors(rt, set)?;
     println!(rt)?;
     tell_product(rt, set)?;
     println!(rt)?;
-    tell_order(rt, set, &[1, 2, 0, 0, 0, 0, 0, 0])?;
+    tell_order(rt, set, &UP)?;
     println!(rt)?;
-    tell_order(rt, set, &[2, 1, 0, 0, 0, 0, 0, 0])?;
+    tell_order(rt, set, &DOWN)?;
     println!(rt)?;
     tell_order(rt, &set[0..2], &[1, 1, 0, 0, 0, 0, 0, 0])
 }
@@ -22,9 +28,9 @@ pub(crate) fn tell(rt: &HostRuntime, set: &[PlainTerm; 3]) -> io::Result<()> {
 // For each pair of different terms, whether one divides the other.
 fn tell_divisors(rt: &HostRuntime, set: &[PlainTerm]) -> io::Result<()> {
     println!(rt; "Which divides which:")?;
-    for (i, u) in set.iter().enumerate() {
-        for (j, w) in set.iter().enumerate() {
-            if i != j {
+    for u in set {
+        for w in set {
+            if u != w {
                 tell_pair(rt, u, w)?;
             }
         }
@@ -33,10 +39,11 @@ fn tell_divisors(rt: &HostRuntime, set: &[PlainTerm]) -> io::Result<()> {
 }
 
 fn tell_pair(rt: &HostRuntime, u: &PlainTerm, w: &PlainTerm) -> io::Result<()> {
-    let (divisor, multiple) = (Named(u), Named(w));
+    let (small, large) = (u.exponents(), w.exponents());
+    let (divisor, multiple) = (Monomial(&small), Monomial(&large));
     match quotient(u, w) {
-        Some(q) => {
-            let times = Powers(q);
+        Some(term) => {
+            let times = Monomial(&term);
             println!(rt; "  {divisor} divides {multiple}, which is {divisor} times {times}.")
         }
         None => println!(rt; "  {divisor} does not divide {multiple}."),
@@ -51,8 +58,11 @@ fn tell_product(rt: &HostRuntime, set: &[PlainTerm]) -> io::Result<()> {
     let Some(w) = times_power(u, 1, 2) else {
         return println!(rt; "The product has an exponent above 65,535.");
     };
-    let (row, product) = (Named(u), Named(&w));
-    println!(rt; "A multiple: {row} times x1^2 is {product}.")?;
+    println!(rt;
+        "A multiple: {} times x1^2 is {}.",
+        Monomial(&u.exponents()),
+        Monomial(&w.exponents())
+    )?;
     for divisor in set {
         tell_pair(rt, divisor, &w)?;
     }
@@ -61,8 +71,10 @@ fn tell_product(rt: &HostRuntime, set: &[PlainTerm]) -> io::Result<()> {
 
 // How the terms compare under an ordering.
 fn tell_order(rt: &HostRuntime, set: &[PlainTerm], order: &[u8]) -> io::Result<()> {
-    let listed = Listed(order);
-    println!(rt; "Compared under {listed}, the greatest variable first:")?;
+    println!(rt;
+        "Compared under {}, the greatest variable first:",
+        Listed(order)
+    )?;
     for (i, u) in set.iter().enumerate() {
         for w in set.iter().skip(i + 1) {
             tell_comparison(rt, u, w, order)?;
@@ -72,15 +84,15 @@ fn tell_order(rt: &HostRuntime, set: &[PlainTerm], order: &[u8]) -> io::Result<(
 }
 
 fn tell_comparison(rt: &HostRuntime, u: &PlainTerm, w: &PlainTerm, order: &[u8]) -> io::Result<()> {
-    let (first, second) = (Named(u), Named(w));
+    let (a, b) = (u.exponents(), w.exponents());
+    let (first, second) = (Monomial(&a), Monomial(&b));
     match compare(u, w, 2, order) {
         Ok(Comparison::Below) => println!(rt; "  {first} is below {second}."),
         Ok(Comparison::Same) => println!(rt; "  {first} and {second} are the same."),
         Ok(Comparison::Above) => println!(rt; "  {first} is above {second}."),
         Err(refusal) => {
-            let number = refusal.number();
-            let why = reason(refusal);
-            println!(rt; "  {first} and {second}: refused by {number}, {why}.")
+            let number = u8::from(refusal);
+            println!(rt; "  {first} and {second}: refused by {number}, {refusal}.")
         }
     }
 }

@@ -1,127 +1,115 @@
 // The editable sheet at its limits.
-use elements::{Derivative, Element, PlainTerm, blank};
+use crate::making::*;
+use elements::{Derivative, PlainTerm};
 use orderings::refusals::Refusal;
 use sheets::opening::open;
 use sheets::parts::*;
+use std::alloc::{AllocError, Global};
 use std::process::Abort;
 use std::test::Fail;
 
-fn term(x1: u16, x2: u16) -> PlainTerm {
-    <PlainTerm as Element>::make(0, [x1, x2, 0, 0, 0, 0, 0, 0])
-}
-
 // Parts for so many variables, with so many places and order bytes, each filled with something.
 fn parts(
-    rt: &HostRuntime,
+    heap: Global,
     variables: u8,
     places: usize,
     bytes: usize,
-) -> Result<Parts<PlainTerm>, Fail> {
-    let table = vec![in rt.alloc(); term(7, 7); places]?;
-    let order = vec![in rt.alloc(); 9u8; bytes]?;
+) -> Result<Parts<PlainTerm>, AllocError> {
+    let table = vec![in heap; term(7, 7, 0); places]?;
+    let order = vec![in heap; 9u8; bytes]?;
+    let header = Header { variables, rows: 5 };
     Ok(Parts {
         table,
         order,
-        header: Header { variables, rows: 5 },
+        header,
     })
 }
 
 fn refusal(parts: Parts<PlainTerm>) -> Option<Refusal> {
-    match open(parts) {
-        Ok(_) => None,
-        Err(Denied { back: _, why }) => Some(why),
-    }
+    open(parts).err().map(|denied| denied.why)
 }
 
 #[test]
 fn opening_refuses_in_order(rt: HostRuntime) -> Result<(), Fail> {
-    assert!(rt; refusal(parts(&rt, 0, 0, 7)?) == Some(Refusal::VariableCount));
-    assert!(rt; refusal(parts(&rt, 9, 65, 9)?) == Some(Refusal::VariableCount));
-    assert!(rt; refusal(parts(&rt, 2, 0, 7)?) == Some(Refusal::PlaceCount));
-    assert!(rt; refusal(parts(&rt, 2, 65, 7)?) == Some(Refusal::PlaceCount));
-    assert!(rt; refusal(parts(&rt, 2, 64, 7)?) == Some(Refusal::OrderLength));
-    assert!(rt; refusal(parts(&rt, 8, 1, 8)?) == None);
+    let heap = rt.alloc();
+    assert_eq!(rt;
+        refusal(parts(heap, 0, 0, 7)?),
+        Some(Refusal::VariableCount)
+    );
+    assert_eq!(rt;
+        refusal(parts(heap, 9, 65, 9)?),
+        Some(Refusal::VariableCount)
+    );
+    assert_eq!(rt; refusal(parts(heap, 2, 0, 7)?), Some(Refusal::PlaceCount));
+    assert_eq!(rt; refusal(parts(heap, 2, 65, 7)?), Some(Refusal::PlaceCount));
+    assert_eq!(rt; refusal(parts(heap, 2, 64, 7)?), Some(Refusal::OrderLength));
+    assert_eq!(rt; refusal(parts(heap, 8, 1, 8)?), None);
     Ok(())
 }
 
 #[test]
 fn exponents_to_4095(rt: HostRuntime) -> Result<(), Fail> {
-    match open(parts(&rt, 2, 4, 8)?) {
-        Ok(mut sheet) => {
-            assert!(rt; sheet.insert(term(4095, 0)) == Ok(0));
-            assert!(rt; sheet.insert(term(4096, 0)) == Err(Refusal::UnfitElement));
-            assert!(rt; sheet.withdraw(&term(4096, 0)) == Err(Refusal::UnfitElement));
-            assert!(rt; sheet.withdraw(&term(1, 0)) == Err(Refusal::NotARow));
-            assert!(rt; sheet.insert(term(4095, 0)) == Err(Refusal::AlreadyARow));
-            Ok(())
-        }
-        Err(_) => Err(Fail::new("open refused")),
-    }
+    let mut sheet = opened(parts(rt.alloc(), 2, 4, 8)?)?;
+    assert_eq!(rt; sheet.insert(term(4095, 0, 0)), Ok(0));
+    assert_eq!(rt; sheet.insert(term(4096, 0, 0)), Err(Refusal::UnfitElement));
+    assert_eq!(rt;
+        sheet.withdraw(&term(4096, 0, 0)),
+        Err(Refusal::UnfitElement)
+    );
+    assert_eq!(rt; sheet.withdraw(&term(1, 0, 0)), Err(Refusal::NotARow));
+    assert_eq!(rt; sheet.insert(term(4095, 0, 0)), Err(Refusal::AlreadyARow));
+    Ok(())
 }
 
 // Inserts the powers of x1 from 1 to 64.
 fn fill(rt: &impl Abort, sheet: &mut OpenSheet<PlainTerm>) {
-    for k in 1..65u16 {
-        assert!(rt; sheet.insert(term(k, 0)) == Ok(k as usize - 1));
+    for (place, power) in (1..=64).enumerate() {
+        assert_eq!(rt; sheet.insert(term(power, 0, 0)), Ok(place));
     }
 }
 
 #[test]
 fn the_65th_row(rt: HostRuntime) -> Result<(), Fail> {
-    match open(parts(&rt, 2, 64, 8)?) {
-        Ok(mut sheet) => {
-            fill(&rt, &mut sheet);
-            assert!(rt; sheet.insert(term(0, 1)) == Err(Refusal::TableFull));
-            assert!(rt; sheet.insert(term(3, 0)) == Err(Refusal::AlreadyARow));
-            assert!(rt; sheet.withdraw(&term(1, 0)) == Ok(()));
-            assert!(rt; sheet.insert(term(0, 1)) == Ok(63));
-            Ok(())
-        }
-        Err(_) => Err(Fail::new("open refused")),
-    }
+    let mut sheet = opened(parts(rt.alloc(), 2, 64, 8)?)?;
+    fill(&rt, &mut sheet);
+    assert_eq!(rt; sheet.insert(term(0, 1, 0)), Err(Refusal::TableFull));
+    assert_eq!(rt; sheet.insert(term(3, 0, 0)), Err(Refusal::AlreadyARow));
+    assert_eq!(rt; sheet.withdraw(&term(1, 0, 0)), Ok(()));
+    assert_eq!(rt; sheet.insert(term(0, 1, 0)), Ok(63));
+    Ok(())
 }
 
 #[test]
 fn altered_parts_are_no_sheet(rt: HostRuntime) -> Result<(), Fail> {
-    match open(parts(&rt, 2, 4, 8)?) {
-        Ok(mut sheet) => {
-            assert!(rt; sheet.arrange(&[2, 1, 0, 0, 0, 0, 0, 0]) == Ok(()));
-            assert!(rt; sheet.arrange(&[1, 0, 0, 0, 0, 0, 0, 0]) == Err(Refusal::NotAnOrdering));
-            sheet.parts.header.rows = 2;
-            assert!(rt; sheet.insert(term(1, 0)) == Err(Refusal::NotASheet));
-            assert!(rt; sheet.arrange(&[1, 2, 0, 0, 0, 0, 0, 0]) == Err(Refusal::NotASheet));
-            sheet.parts.header.rows = 0;
-            assert!(rt; sheet.insert(term(1, 0)) == Ok(0));
-            Ok(())
-        }
-        Err(_) => Err(Fail::new("open refused")),
-    }
+    let mut sheet = opened(parts(rt.alloc(), 2, 4, 8)?)?;
+    assert_eq!(rt; sheet.arrange(&[2, 1, 0, 0, 0, 0, 0, 0]), Ok(()));
+    assert_eq!(rt;
+        sheet.arrange(&[1, 0, 0, 0, 0, 0, 0, 0]),
+        Err(Refusal::NotAnOrdering)
+    );
+    sheet.parts.header.rows = 2;
+    assert_eq!(rt; sheet.insert(term(1, 0, 0)), Err(Refusal::NotASheet));
+    assert_eq!(rt;
+        sheet.arrange(&[1, 2, 0, 0, 0, 0, 0, 0]),
+        Err(Refusal::NotASheet)
+    );
+    sheet.parts.header.rows = 0;
+    assert_eq!(rt; sheet.insert(term(1, 0, 0)), Ok(0));
+    Ok(())
 }
 
 #[test]
 fn families_differ(rt: HostRuntime) -> Result<(), Fail> {
-    let table = vec![in rt.alloc(); blank::<Derivative>(); 3]?;
-    let order = vec![in rt.alloc(); 0u8; 8]?;
-    match open(Parts {
-        table,
-        order,
-        header: Header {
-            variables: 1,
-            rows: 0,
-        },
-    }) {
-        Ok(mut sheet) => {
-            let e = [1, 0, 0, 0, 0, 0, 0, 0];
-            assert!(rt; sheet.insert(<Derivative as Element>::make(1, e)) == Ok(0));
-            assert!(rt; sheet.insert(<Derivative as Element>::make(2, e)) == Ok(1));
-            assert!(rt;
-                sheet.insert(<Derivative as Element>::make(2, e)) == Err(Refusal::AlreadyARow)
-            );
-            assert!(rt;
-                sheet.insert(<Derivative as Element>::make(0, e)) == Err(Refusal::UnfitElement)
-            );
-            Ok(())
-        }
-        Err(_) => Err(Fail::new("open refused")),
-    }
+    let mut sheet = opened(blank_parts::<Derivative>(rt.alloc(), 1, 3)?)?;
+    assert_eq!(rt; sheet.insert(derivative(1, 1, 0)), Ok(0));
+    assert_eq!(rt; sheet.insert(derivative(2, 1, 0)), Ok(1));
+    assert_eq!(rt;
+        sheet.insert(derivative(2, 1, 0)),
+        Err(Refusal::AlreadyARow)
+    );
+    assert_eq!(rt;
+        sheet.insert(derivative(0, 1, 0)),
+        Err(Refusal::UnfitElement)
+    );
+    Ok(())
 }

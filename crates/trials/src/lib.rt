@@ -8,6 +8,8 @@ mod comparing;
 #[cfg(test)]
 mod editing;
 #[cfg(test)]
+mod making;
+#[cfg(test)]
 mod searching;
 #[cfg(test)]
 mod settling;
