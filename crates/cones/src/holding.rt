@@ -6,7 +6,8 @@ ghost use Rattle.cones.specs.Tables.{limit_in, limits_of};
 use crate::tables::*;
 use elements::{Element, quotient};
 
-// Rows in n variables, with the limits of each.
+// Rows in n variables, with the limits of each. These are two lists, and not one of pairs: a rule of the project,
+// as the rows stay in the caller's table, and the limits lie in fixed memory.
 #[derive(Clone, Copy)]
 pub struct Limited<'a, E> {
     pub rows: &'a [E],

@@ -74,6 +74,7 @@ impl<A: Division, B: Division> Division for OneOf<A, B> {
 }
 
 // The division of a number: 1 for Janet, which sets limits by stars, 2 for Janet-like, which sets them by gaps.
+// It is no TryFrom, which would be no plainer: the theorems that this contract names would need another function to carry them.
 pub fn numbered(number: u8) -> Option<OneOf<Janet, JanetLike>>
     ensures number { IsNumbered number (option_map (either (λ _. janet) (λ _. janet_like)) result) }
     ensures stars { JanetIsToldByStars }

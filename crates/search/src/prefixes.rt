@@ -3,6 +3,7 @@ ghost use Rattle.std.specs.Prelude.{◌≡◌, ◌+◌, ◌-◌, ◌≤◌, fals
 ghost use Rattle.search.specs.Prefixes.{has, unused_above, Entries, padded, completed as completion};
 
 // The first entries of an ordering of n variables: distinct ones of these, the greatest first, with zeros after them.
+// It is an array and a length, and no Vec: a rule of the project, as the search has no heap.
 #[derive(Clone, Copy)]
 pub(crate) struct Prefix {
     entries: [u8; 8],

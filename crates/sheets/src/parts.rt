@@ -1,7 +1,8 @@
 // The parts of a sheet, and the sheet that is open to edits. A caller may build parts with any content.
 use orderings::refusals::Refusal;
 
-// How many variables there are, and how many rows.
+// How many variables there are, and how many rows. The count of rows stands beside the table, and the table is no list of rows alone:
+// a rule of the project, as a sheet has all its places from the start and a caller may hand in parts with any content.
 #[derive(Clone, Copy, PartialEq, Eq, Debug)]
 pub struct Header {
     pub variables: u8,
@@ -59,6 +60,7 @@ pub struct Bar {
 
 // Whether rows are complete. Where they are, the element is the row at place 0 and the numbers are 0;
 // else it is the row that falls short first, with its place, the variable and the power.
+// That a flag stands beside the numbers is a rule of the project: a verdict tells all five, an element of a row in either case.
 #[derive(Clone, Copy, PartialEq, Eq, Debug)]
 pub struct Verdict<E> {
     pub complete: bool,
