@@ -3,12 +3,10 @@
 
 ghost use Rattle.std.specs.Prelude.{◌≡◌, ℕ, ◌≤◌, Bool, true, ◌&&◌, ◌⊎◌, is_some, IfSome, Decides, MatchOption, ◌==◌, nat_le};
 ghost use Rattle.elements.specs.Element.{Shown, exponent, entry as entry_of, Divides, Variable, Overflows, power as to_the, product as multiplied, times, quotient as divided, blank as nothing};
-ghost use Rattle.std.proofs.Common.{ap, ◌∙◌, refl};
-ghost use Rattle.std.proofs.lemmas.Bool.Decides.{Decides-and, Decides-eqb};
-ghost use Rattle.std.proofs.lemmas.Slice.Eq.{slice_eq-Decides};
+ghost use Rattle.std.proofs.Common.{ap};
 
 // A kind of element. An element shows a family and eight exponents, and is known by them.
-pub trait Element: Copy + Eq {
+pub trait Element: Copy + Clone {
     ghost shown: { Self → Shown };
 
     // The families that the kind admits.
@@ -28,9 +26,6 @@ pub trait Element: Copy + Eq {
 
     // Two elements that show the same are the same.
     ghost known: { (x y : Self) → shown x ≡ shown y → x ≡ y };
-
-    // Two elements are equal exactly when they are the same.
-    ghost alike: { (x y : Self) → Decides (Self.eq x y) (x ≡ y) };
 }
 
 // A term with a family from LEAST to GREATEST.
@@ -52,11 +47,6 @@ impl<const LEAST: u8, const GREATEST: u8> Element for Term<LEAST, GREATEST> {
     ghost admitted = { λ f. nat_le LEAST f && nat_le f GREATEST };
 
     ghost known = { λ _ _ e. ap (λ (s : Shown). record { family = s.family; exponents = s.exponents }) e };
-
-    ghost alike = { λ x y. let parts = Decides-and _ _ (Decides-eqb x.family y.family) (slice_eq-Decides Decides-eqb x.exponents y.exponents _ refl) in (
-      λ t. ap (λ (f : ℕ). record { family = f; exponents = x.exponents }) (parts.0 t).0 ∙ ap (λ e. record { family = y.family; exponents = e }) (parts.0 t).1,
-      λ e. parts.1 (ap (λ t. t.family) e, ap (λ t. t.exponents) e),
-    ) };
 
     fn make(family: u8, exponents: [u16; 8]) -> Self {
         Term { family, exponents }
@@ -102,7 +92,7 @@ pub fn exponent_of(exponents: &[u16; 8], variable: u8) -> u16
 pub fn same<E: Element>(a: &E, b: &E) -> bool
     ensures { Decides result (a.now ≡ b.now) }
 {
-    a == b
+    a.family() == b.family() && a.exponents() == b.exponents()
 }
 
 // Whether the divisor divides the multiple.

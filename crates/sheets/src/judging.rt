@@ -10,7 +10,7 @@ ghost use Rattle.sheets.specs.Read.{Stands, book, ABookFixesItsSheet};
 
 use crate::parts::*;
 use barcode::Ranked;
-use elements::{Element, blank};
+use elements::{Element, blank, same};
 use orderings::fitting::is_fit;
 use orderings::orders::{is_ordering, is_variable_count};
 use orderings::refusals::Refusal;
@@ -29,7 +29,7 @@ pub fn is_place_count(places: usize) -> bool
 pub fn place_of<E: Element>(rows: &[E], element: &E) -> Option<usize>
     ensures { MatchOption result ((k : ℕ) → k < length rows.now → place (map E.Element.shown rows.now) k ≢ E.Element.shown element.now) (λ p. (p < length rows.now) × (place (map E.Element.shown rows.now) p ≡ E.Element.shown element.now) × ((k : ℕ) → k < p → place (map E.Element.shown rows.now) k ≢ E.Element.shown element.now)) }
 {
-    rows.iter().position(|row| row == element)
+    rows.iter().position(|row| same(row, element))
 }
 
 // Whether the elements can be the rows of a sheet of n variables.
@@ -37,7 +37,7 @@ pub fn are_rows<E: Element>(rows: &[E], n: u8) -> bool
     ensures { Decides result (Rows E.Element.admitted n (map E.Element.shown rows.now)) }
 {
     for (p, row) in rows.iter().enumerate() {
-        if !is_fit(row, n) || rows[..p].contains(row) {
+        if !is_fit(row, n) || place_of(&rows[..p], row).is_some() {
             return false;
         }
     }
@@ -49,7 +49,7 @@ pub fn are_blank<E: Element>(places: &[E]) -> bool
     ensures { Decides result ((p : ℕ) → place (map E.Element.shown places.now) p ≡ nothing) }
 {
     let nothing_here = blank();
-    places.iter().all(|place| *place == nothing_here)
+    places.iter().all(|place| same(place, &nothing_here))
 }
 
 // Whether the parts make a sheet, of which the book then fixes everything.
