@@ -81,7 +81,7 @@ fn over_lower_bar<E: Element>(u: &E, w: &E, order: &[u8], variable: u8) -> bool
 }
 
 // Rows of any kind under an ordering of their variables.
-#[derive(Clone, Copy)]
+#[derive(Clone, Copy, PartialEq, Eq, Debug)]
 pub struct Ranked<'a, E> {
     pub rows: &'a [E],
     pub order: &'a [u8],

@@ -8,7 +8,7 @@ use elements::{Element, quotient};
 
 // Rows in n variables, with the limits of each. These are two lists, and not one of pairs: a rule of the project,
 // as the rows stay in the caller's table, and the limits lie in fixed memory.
-#[derive(Clone, Copy)]
+#[derive(Clone, Copy, PartialEq, Eq, Debug)]
 pub struct Limited<'a, E> {
     pub rows: &'a [E],
     pub limits: &'a [Limits],

@@ -26,7 +26,7 @@ pub trait Division: Copy + Clone {
 }
 
 // Janet: no limit at a star, limit 1 elsewhere.
-#[derive(Clone, Copy)]
+#[derive(Clone, Copy, PartialEq, Eq, Debug)]
 pub struct Janet;
 
 impl Division for Janet {
@@ -40,7 +40,7 @@ impl Division for Janet {
 }
 
 // Janet-like: no limit at a star, the gap elsewhere.
-#[derive(Clone, Copy)]
+#[derive(Clone, Copy, PartialEq, Eq, Debug)]
 pub struct JanetLike;
 
 impl Division for JanetLike {
@@ -54,7 +54,7 @@ impl Division for JanetLike {
 }
 
 // One division or another.
-#[derive(Clone, Copy)]
+#[derive(Clone, Copy, PartialEq, Eq, Debug)]
 pub enum OneOf<A, B> {
     First(A),
     Second(B),

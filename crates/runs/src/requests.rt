@@ -6,7 +6,7 @@ use orderings::refusals::Refusal;
 use sheets::parts::*;
 
 // A call on a sheet with what it is handed.
-#[derive(Clone, Copy)]
+#[derive(Clone, Copy, PartialEq, Eq, Debug)]
 pub enum Request<'a, E, D> {
     Insert(E),
     Withdraw(E),
