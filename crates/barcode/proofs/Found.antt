@@ -1,14 +1,13 @@
 -- What the code finds of bars. Assumes nothing.
-use Rattle.std.proofs.Common.{◌≡◌, ℕ, zero, suc, ◌<◌, ◌≤◌, Bool, true, false, not, List, length, map, take, get_or, is_some, Some, None, Decides, Option, sym, refl, ap, ◌∙◌, inl, inr, arith}
+use Rattle.std.proofs.Common.{◌≡◌, ℕ, zero, suc, ◌<◌, Bool, true, false, not, List, length, map, take, get_or, Decides, sym, refl, ap, ◌∙◌, inl, inr, arith}
 use Rattle.std.specs.Bool.{MatchBool}
 use Rattle.std.specs.List.{AllWithin, HoldsAt}
 use Rattle.std.proofs.lemmas.List.{get_or_past, get_or-map, get_or-take, length-take}
-use Rattle.std.proofs.lemmas.Bool.{cases_lt, cases_eq, and_left, and_right, and_from, not_from_true, not_from_false, not-false, not-true, both_ways}
-use Rattle.elements.specs.Element.{Shown, exponent, blank}
-use Rattle.orderings.specs.Order.{at, Agree, DifferAt}
+use Rattle.std.proofs.lemmas.Bool.{cases_lt, cases_eq, and_left, and_right, and_from, not_from_true, not_from_false}
+use Rattle.elements.specs.Element.{Shown, blank}
+use Rattle.orderings.specs.Order.{Agree}
 use Rattle.orderings.specs.Rows.{row}
-use Rattle.barcode.specs.Bars.{position, SameBar, LowerBar, Star, same_bar, opens_bar}
-use Rattle.barcode.specs.Gap.{IsGap}
+use Rattle.barcode.specs.Bars.{SameBar, LowerBar, same_bar, opens_bar}
 use Rattle.barcode.proofs.Tested.{same_bar_decides}
 
 module _ (order : List ℕ) (v : ℕ) (u w : Shown) where
@@ -21,26 +20,6 @@ module _ (order : List ℕ) (v : ℕ) (u w : Shown) where
 
   pub never_lower : Agree order (length order) u w → LowerBar order v u w → ⊥
   never_lower a b = omega (arith, agree_all a (suc b.at_position) b.at_position (omega arith), b.parts.smaller)
-
-  -- a first difference after v
-  pub same_before : (k : ℕ) → u.family ≡ w.family → DifferAt order k u w → position order v < k → SameBar order v u w
-  same_before k f d l = record { family = f; agree = λ j h. d.above j (omega arith) }
-
-  pub not_same_at : (k : ℕ) → DifferAt order k u w → k ≤ position order v → SameBar order v u w → ⊥
-  not_same_at k d l s = d.here (s.agree k (omega arith))
-
-  -- the first difference decides which bar is lower
-  pub lower_at : (k : ℕ) → u.family ≡ w.family → DifferAt order k u w → k ≤ position order v → exponent u (at order k) < exponent w (at order k) → LowerBar order v u w
-  lower_at k f d l s = record { at_position = k; down_to = l; parts = record { family = f; above = d.above; smaller = s } }
-
-  pub lower_only_at : (k : ℕ) → DifferAt order k u w → LowerBar order v u w → (k ≤ position order v) × (exponent u (at order k) < exponent w (at order k))
-  lower_only_at k d b = elim (cases_eq k b.at_position) [
-    | inl e ↦ (omega (arith, b.down_to), rw e b.parts.smaller)
-    | inr ne ↦ elim (cases_lt k b.at_position) [
-      | inl l ↦ absurd (d.here (b.parts.above k l))
-      | inr l ↦ absurd (omega (arith, d.above b.at_position (omega arith), b.parts.smaller))
-    ]
-  ]
 
 -- a row over the same bar before place q
 module _ (rows : List Shown) (order : List ℕ) (v q : ℕ) where
@@ -74,11 +53,3 @@ module _ {X : Type 0} (shown : X → Shown) (xs : List X) (order : List ℕ) (v 
       sym (opens_not (map shown xs) order v q k q small (rw (before k small, e) (s u)))
   opens_told false none =
       sym (opens_all (map shown xs) order v q q (λ j h. rw (before j h, e) (none j u (omega arith) (omega (arith, length-take q xs)))))
-
--- a star is the absence of a gap
-pub star_decides : (rows : List Shown) (order : List ℕ) (u : Shown) (v : ℕ) (o : Option ℕ) (r : Bool) → is_some o ≡ not r → IsGap rows order u v o → Decides r (Star rows order u v)
-star_decides rows order u v None r e g = (λ _. g, λ _. not-false r (sym e))
-star_decides rows order u v (Some m) r e g = (λ t. absurd (both_ways r (not-true r (sym e)) t), λ s. absurd (s g.0.0 g.0.1 g.0.2))
-
-pub star_none : (o : Option ℕ) (r : Bool) → is_some o ≡ not r → None ≡ o → r ≡ true
-star_none o r e n = not-false r (sym e ∙ ap is_some (sym n))

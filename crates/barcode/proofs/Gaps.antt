@@ -1,7 +1,7 @@
 -- The gap as a function is the gap in words. Assumes nothing.
-use Rattle.std.proofs.Common.{◌≡◌, ℕ, ◌+◌, ◌-◌, ◌<◌, ◌≤◌, Bool, true, false, cond, ltb, List, map, length, Some, None, Option, sym, refl, ap, ◌∙◌, subst, arith}
+use Rattle.std.proofs.Common.{◌≡◌, ℕ, ◌+◌, ◌-◌, ◌<◌, Bool, true, false, cond, ltb, List, map, length, Some, None, Option, sym, refl, ap, ◌∙◌, subst, arith}
 use Rattle.std.proofs.lemmas.List.{length-map}
-use Rattle.std.proofs.lemmas.Bool.{lt-ltb, le-ltb, cond-true, cond-false}
+use Rattle.std.proofs.lemmas.Bool.{lt-ltb, cond-true}
 use Rattle.elements.specs.Element.{Shown, blank}
 use Rattle.orderings.specs.Rows.{row}
 use Rattle.barcode.specs.Bars.{Rises}
@@ -45,9 +45,6 @@ gap_is rows order p v l =
 
 -- the gap of the rows as code holds them
 module _ {X : Type 0} (shown : X → Shown) (order : List ℕ) (v : ℕ) where
-  pub gap_past : (xs : List X) (p : ℕ) → length xs ≤ p → None ≡ gap (map shown xs) order p v
-  gap_past xs p l = sym (cond-false _ _ _ (le-ltb p (length (map shown xs)) (omega (arith, length-map xs shown))))
-
   -- the least rise of all rows
   pub gap_all : (xs : List X) (p : ℕ) (u : Shown) (best : Option ℕ) → p < length xs → row (map shown xs) p ≡ u → best ≡ least (map (rise order v u) (map shown xs)) →
       best ≡ gap (map shown xs) order p v

@@ -10,10 +10,6 @@ lesser_assoc (Some x) None c = refl
 lesser_assoc (Some x) (Some y) None = refl
 lesser_assoc (Some x) (Some y) (Some z) = ap Some (omega arith)
 
-pub lesser_none : (a : Option ℕ) → lesser a None ≡ a
-lesser_none None = refl
-lesser_none (Some x) = refl
-
 fold_min : (xs : List ℕ) (x : ℕ) → Some (fold min x xs) ≡ lesser (Some x) (reduce min xs)
 fold_min [] x = refl
 fold_min (y ∷ ys) x = fold_min ys (min x y) ∙ lesser_assoc (Some x) (Some y) (reduce min ys) ∙ ap (lesser (Some x)) (sym (fold_min ys y))

@@ -1,7 +1,6 @@
 -- The tests of bars say what the words say. Assumes nothing.
-use Rattle.std.proofs.Common.{◌≡◌, ℕ, zero, suc, ◌-◌, ◌<◌, ◌≤◌, Bool, true, false, ◌&&◌, eqb, ltb, List, [], ◌∷◌, length, take, Some, None, Decides, sym, refl, ap, ◌∙◌, inl, inr, arith}
-use Rattle.std.proofs.lemmas.Bool.{and_parts, and_from, or_cases, or_left, or_right, lt-ltb, ltb-true, eq-eqb, eqb-true, cond-true, cond-false, cases_order, cases_lt, false≢true}
-use Rattle.std.proofs.lemmas.List.{get_or_past}
+use Rattle.std.proofs.Common.{◌≡◌, ℕ, zero, suc, ◌-◌, ◌<◌, ◌≤◌, Bool, true, false, ◌&&◌, eqb, ltb, List, [], ◌∷◌, take, Some, None, Decides, sym, refl, ap, ◌∙◌, inl, inr, arith}
+use Rattle.std.proofs.lemmas.Bool.{and_parts, and_from, or_cases, or_left, or_right, lt-ltb, ltb-true, eq-eqb, eqb-true, cond-true, cond-false, cases_order, false≢true}
 use Rattle.std.proofs.lemmas.Bool.Decides.{Decides-and, Decides-eqb, Decides-ltb, Decides-like}
 use Rattle.elements.specs.Element.{Shown, exponent}
 use Rattle.orderings.specs.Order.{at, Agree, DifferAt}
@@ -79,12 +78,6 @@ rise_none order v u w h = cond-false (rises order v u w) _ None (false_from (ris
 
 -- what the first difference says of a rise
 module _ (order : List ℕ) (v : ℕ) (u w : Shown) where
-  pub none_agreeing : Agree order (length order) u w → Rises order v u w → ⊥
-  none_agreeing a r = elim (cases_lt (position order v) (length order)) [
-    | inl l ↦ omega (arith, a (position order v) l, r.smaller)
-    | inr l ↦ (let z = get_or_past order (position order v) 0 l in let s = rw z at r.smaller in omega (arith, s))
-  ]
-
   pub none_elsewhere : (k : ℕ) → DifferAt order k u w → (k ≡ position order v → ⊥) → Rises order v u w → ⊥
   none_elsewhere k d ne r = elim (cases_order k (position order v)) [
     | inl e ↦ ne e

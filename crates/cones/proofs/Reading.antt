@@ -11,11 +11,6 @@ use Rattle.orderings.specs.Rows.{row}
 use Rattle.cones.specs.Cones.{Within, Holds, InCone, Shortfall, Small}
 use Rattle.cones.specs.Tables.{limit_in, limits_at, limits_of}
 
--- there is no variable 0
-pub limit_none : (xs : List (Option ℕ)) (v : ℕ) → v < 1 → limit_in xs v ≡ None
-limit_none xs zero h = refl
-limit_none xs (suc k) h = absurd (omega arith)
-
 -- a variable past the end has no limit
 pub limit_past : (xs : List (Option ℕ)) (v : ℕ) → length xs < v → limit_in xs v ≡ None
 limit_past xs zero h = refl

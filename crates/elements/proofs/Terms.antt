@@ -110,12 +110,6 @@ module _ (u w : Shown) (a b : List ℕ) (ea : a ≡ u.exponents) (eb : b ≡ w.e
       let e : b ≡ (product u xs).exponents = product_by_places u xs b m (λ k l. rw (← ea) (omega (arith, place_of d k, h k l))) in
       shown_path _ _ (product_family u xs ∙ d.family) (sym e ∙ eb)
 
--- elements that are known by what they show: equal exponents, in one family, decide sameness
-pub same_decides : {E : Type 0} (shown : E → Shown) → ((x y : E) → shown x ≡ shown y → x ≡ y) → (x y : E) (a b : List ℕ) (r : Bool) →
-    (shown x).family ≡ (shown y).family → a ≡ (shown x).exponents → b ≡ (shown y).exponents → Decides r (a ≡ b) → Decides r (x ≡ y)
-same_decides shown known x y a b r f ea eb d =
-    (λ t. known x y (shown_path _ _ f (sym ea ∙ d.0 t ∙ eb)), λ e. d.1 (ea ∙ ap (λ z. (shown z).exponents) e ∙ sym eb))
-
 -- a sum that does not fit 16 bits
 pub overflows_at : (u : Shown) (a t : List ℕ) → a ≡ u.exponents → (k x : ℕ) → x ≡ get_or a k 0 → (x + get_or t k 0 < 65536 → ⊥) → Overflows u t
 overflows_at u a t e k x is none = (suc k, rw (← e, ← is) (omega (arith, none)))

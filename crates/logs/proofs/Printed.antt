@@ -1,5 +1,5 @@
 -- An input has one output. Assumes nothing.
-use Rattle.std.proofs.Common.{◌≡◌, ℕ, ◌<◌, Bool, cond, ◌&&◌, eqb, leb, ◌⊎◌, List, [], ◌∷◌, ◌++◌, map, length, IfOk, Ok, Err, codes, decimal, Result, sym, refl, ap, ◌∙◌, subst, ap₂, subst₂, inl, inr, arith}
+use Rattle.std.proofs.Common.{◌≡◌, ℕ, ◌<◌, Bool, cond, ◌&&◌, eqb, leb, ◌⊎◌, List, [], ◌∷◌, ◌++◌, map, length, codes, decimal, sym, refl, ap, ◌∙◌, subst, ap₂, subst₂, inl, inr, arith}
 use Rattle.orderings.specs.Order.{VariableCount}
 use Rattle.sheets.specs.Book.{fresh}
 use Rattle.lines.specs.declared.reports.BadStart.TheVariants.{CutShort, NoSuchKind, VariableCount as BadCount}
@@ -10,7 +10,7 @@ use Rattle.lines.specs.Report.{kind_number, report_text}
 use Rattle.runs.proofs.Sound.{a_fresh_book_is_sound}
 use Rattle.logs.specs.Session.{Entry, Logged}
 use Rattle.logs.specs.Told.{entry_text}
-use Rattle.logs.specs.Input.{ReportsKind, Kind, terms, derivatives, Reports, too_long, cut_short, no_kind, of_kind, Prints}
+use Rattle.logs.specs.Input.{ReportsKind, Kind, terms, derivatives, Reports, too_long, cut_short, no_kind, of_kind}
 use Rattle.logs.specs.Laws.{AnInputHasOneOutput}
 use Rattle.logs.proofs.Once.{a_log_has_one_outcome}
 
@@ -109,8 +109,3 @@ one_report input r q (of_kind {n = n} {kind = kind} {log = log} {admits = admits
 
 pub an_input_has_one_output : AnInputHasOneOutput
 an_input_has_one_output input t u (r, x, e) (q, y, f) = e ∙ one_report input r q x y ∙ sym f
-
--- what was made of a report is printed of the input that it reports on
-pub printed_of : {T X : Type 0} (input : List ℕ) (bytes : T → List ℕ) (report : Report) (r : Result T X) → Reports input report → IfOk r (λ t. bytes t ≡ report_text report) → IfOk r (λ t. Prints input (bytes t))
-printed_of input bytes report (Ok t) reports text = (report, reports, text)
-printed_of input bytes report (Err x) reports text = tt

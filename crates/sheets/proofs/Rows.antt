@@ -8,10 +8,6 @@ use Rattle.elements.specs.Element.{Shown, blank}
 use Rattle.orderings.specs.Fit.{Fit}
 use Rattle.orderings.specs.Rows.{row, Rows}
 
--- whether an element is among the rows, by places
-pub none_has : (rows : List Shown) (e : Shown) → ((k : ℕ) → k < length rows → row rows k ≡ e → ⊥) → Has rows e → ⊥
-none_has rows e h (k, l, at) = h k l (at blank)
-
 pub some_has : (rows : List Shown) (e : Shown) (k : ℕ) → k < length rows → row rows k ≡ e → Has rows e
 some_has rows e k l q = (k, l, λ d. get_or_default rows k d blank l ∙ q)
 

@@ -35,16 +35,6 @@ module _ (admits : ℕ → Bool) (state : State) where
       (subst (λ (x : List Shown). Makes admits n count x order') (sym c) (subst (λ (x : List ℕ). Makes admits n count table x) (sym d) m)))
 
 module _ {E : Type 0} (admits : ℕ → Bool) (shown : E → Shown) (state : State) (p : Parts E) (call : Call) where
-  -- parts that make no sheet
-  pub unmade_by : (Stands admits shown p → ⊥) → Performed admits shown state p call (refused 8 []) p
-  unmade_by none = record {
-    stands = λ s. s;
-    follows = λ s. absurd (none s);
-    answered = λ s. absurd (none s);
-    unmade = λ _. refl;
-    kept = λ _ _ _. (refl, refl);
-  }
-
   -- a check that fails
   pub refused_by : (r : ℕ) → Stands admits shown p → Fails (checks (book admits shown state p) call) r → Performed admits shown state p call (refused r []) p
   refused_by r st f = record {
