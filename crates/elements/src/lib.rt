@@ -88,7 +88,8 @@ pub fn exponent_of(exponents: &[u16; 8], variable: u8) -> u16
     exponents[variable as usize - 1]
 }
 
-// Whether two elements are the same.
+// Whether two elements are the same, by what they show. It is no `==`: to ask a kind for that would ask more of it than its laws need,
+// and be no plainer.
 pub fn same<E: Element>(a: &E, b: &E) -> bool
     ensures { Decides result (a.now ≡ b.now) }
 {

@@ -30,6 +30,7 @@ pub(crate) fn lines_of<E: Element>(
     let mut lines = Vec::new(heap);
     // two bytes stand before the log
     let bytes = log.len() + 2;
+    // a loop over what is left of the log, handed on as a part: a rule of the project
     'log: loop {
         let place = bytes - rest.len();
         match read(rest) {

@@ -44,6 +44,7 @@ pub fn search<E: Element, D: Division>(division: &D, rows: &[E], n: u8) -> Found
     let mut table = [[None; 8]; 64];
     let mut from: u8 = 0;
     let mut tested: u32 = 0;
+    // a loop that breaks with the ordering: a rule of the project
     let ordering = 'walk: loop {
         match prefix.next_unused(from) {
             None => {
