@@ -1,9 +1,9 @@
 -- The ordering 1, 2, .. n. Assumes nothing.
-use Rattle.std.proofs.Common.{◌≡◌, ℕ, ◌+◌, ◌-◌, ◌<◌, ◌≤◌, List, length, get_or, set, replicate, sym, ◌∙◌, inl, inr, arith}
+use Rattle.std.proofs.Common.{◌≡◌, ℕ, ◌+◌, ◌-◌, ◌<◌, ◌≤◌, List, length, get_or, replicate, sym, ◌∙◌, inl, inr, arith}
 use Rattle.std.specs.List.{range_with_len}
 use Rattle.std.proofs.lemmas.List.FromFn.{length-range_with_len, get_or-range_with_len}
-use Rattle.std.proofs.lemmas.List.{ext_get_or, get_or_append_left, get_or-append_right, get_or_past, get_or-replicate, get_or-set_same, get_or-set_other, length-set, length-append, length-replicate}
-use Rattle.std.proofs.lemmas.Bool.{cases_lt, cases_eq}
+use Rattle.std.proofs.lemmas.List.{ext_get_or, get_or_append_left, get_or-append_right, get_or_past, get_or-replicate, length-append, length-replicate}
+use Rattle.std.proofs.lemmas.Bool.{cases_lt}
 use Rattle.orderings.specs.Order.{at, IsOrdering}
 use Rattle.sheets.specs.Sheet.{natural_order}
 
@@ -38,24 +38,3 @@ natural_written n xs few eight own others =
       | inl m ↦ own k m ∙ sym (natural_low n few k m)
       | inr m ↦ others k m ∙ sym (natural_high n few k m)
     ])
-
--- the same, with the last of them just written
-pub natural_written_to : (n v : ℕ) (xs : List ℕ) → n ≤ 8 → 1 ≤ v → v ≡ n → length xs ≡ 8 → ((j : ℕ) → j + 1 < v → get_or xs j 0 ≡ j + 1) → ((j : ℕ) → v ≤ j + 1 → get_or xs j 0 ≡ 0) →
-    set xs (v - 1) v ≡ natural_order n
-natural_written_to n v xs few low last eight own others =
-    natural_written n (set xs (v - 1) v) few (length-set xs (v - 1) v ∙ eight)
-    (λ j l. elim (cases_eq j (v - 1)) [
-      | inl e ↦ rw e (get_or-set_same xs (v - 1) v 0 (omega arith) ∙ omega arith)
-      | inr d ↦ get_or-set_other xs (v - 1) j v 0 d ∙ own j (omega arith)
-    ])
-    (λ j l. get_or-set_other xs (v - 1) j v 0 (λ e. omega arith) ∙ others j (omega arith))
-
-pub natural_kept : (n v : ℕ) (xs : List ℕ) → 1 ≤ v → v ≤ n → n ≤ 8 → length xs ≡ 8 → ((j : ℕ) → j + 1 < v → get_or xs j 0 ≡ j + 1) → ((j : ℕ) → v ≤ j + 1 → get_or xs j 0 ≡ 0) →
-    ((j : ℕ) → j + 1 < v + 1 → get_or (set xs (v - 1) v) j 0 ≡ j + 1) × ((j : ℕ) → v + 1 ≤ j + 1 → get_or (set xs (v - 1) v) j 0 ≡ 0)
-natural_kept n v xs low high few eight own others = (
-  λ j l. elim (cases_eq j (v - 1)) [
-    | inl e ↦ rw e (get_or-set_same xs (v - 1) v 0 (omega arith) ∙ omega arith)
-    | inr d ↦ get_or-set_other xs (v - 1) j v 0 d ∙ own j (omega arith)
-  ],
-  λ j l. get_or-set_other xs (v - 1) j v 0 (λ e. omega arith) ∙ others j (omega arith),
-)

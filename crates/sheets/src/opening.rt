@@ -1,9 +1,9 @@
 // Opening a sheet.
-ghost use Rattle.std.specs.Prelude.{◌≡◌, ℕ, ◌≤◌, [], map, length, vec_len};
+ghost use Rattle.std.specs.Prelude.{◌≡◌, ℕ, ◌+◌, ◌<◌, ◌≤◌, [], map, length, vec_len, IfOk};
 ghost use Rattle.orderings.specs.Answer.{answer, granted, Answers};
 ghost use Rattle.elements.specs.Element.{blank as nothing};
 ghost use Rattle.orderings.specs.Rows.{row as place};
-ghost use Rattle.sheets.specs.Sheet.{natural_order};
+ghost use Rattle.sheets.specs.Sheet.{natural_order as natural};
 ghost use Rattle.sheets.specs.Book.{open_asks};
 ghost use Rattle.sheets.specs.Read.{Opens};
 
@@ -12,6 +12,28 @@ use crate::parts::*;
 use elements::{Element, blank};
 use orderings::orders::is_variable_count;
 use orderings::refusals::Refusal;
+use std::alloc::{AllocError, Global};
+use std::array;
+
+// Parts to open a sheet of so many variables and places over. Opening writes every place and the order bytes.
+pub fn parts_for<E: Element>(
+    heap: Global,
+    variables: u8,
+    places: usize,
+) -> Result<Parts<E>, AllocError>
+    ensures header { IfOk result (λ p. (p.header.variables ≡ variables) × (p.header.rows ≡ 0)) }
+    ensures places { IfOk result (λ p. vec_len p.table ≡ places) }
+    ensures order { IfOk result (λ p. vec_len p.order ≡ 8) }
+{
+    let table = vec![in heap; blank(); places]?;
+    let order = vec![in heap; 0; 8]?;
+    let header = Header { variables, rows: 0 };
+    Ok(Parts {
+        table,
+        order,
+        header,
+    })
+}
 
 // Writes blanks to every place.
 fn clear<E: Element>(table: &mut [E])
@@ -23,15 +45,15 @@ fn clear<E: Element>(table: &mut [E])
     }
 }
 
-// Writes the ordering 1, 2, .. n.
-fn write_natural_order(order: &mut [u8], n: u8)
-    requires { (length order.old ≡ 8) × (n ≤ 8) }
-    ensures { order.new ≡ natural_order n }
+// The ordering 1, 2, .. n.
+fn natural_order(n: u8) -> [u8; 8]
+    ensures { n ≤ 8 → result ≡ natural n }
 {
-    order.fill(0);
-    for variable in 1..=n {
-        order[variable as usize - 1] = variable;
-    }
+    array::from_fn(
+        |k| -> u8
+            ensures { ((k < n) → (result ≡ k + 1)) × ((n ≤ k) → (result ≡ 0)) }
+        { if k < n as usize { k as u8 + 1 } else { 0 } },
+    )
 }
 
 // Why no sheet can be opened over the parts, if none can.
@@ -60,7 +82,9 @@ pub fn open<E: Element>(parts: Parts<E>) -> Result<OpenSheet<E>, Denied<Parts<E>
             let mut parts = parts;
             clear(&mut parts.table);
             parts.header.rows = 0;
-            write_natural_order(&mut parts.order, parts.header.variables);
+            parts
+                .order
+                .copy_from_slice(&natural_order(parts.header.variables));
             Ok(OpenSheet { parts })
         }
     }

@@ -1,11 +1,10 @@
-use Rattle.std.proofs.Common.{◌≡◌, [], map, length, vec_items, vec_len, sym, refl, ap, ◌∙◌}
+use Rattle.std.proofs.Common.{◌≡◌, [], map, vec_items, vec_len, refl, ap, ◌∙◌}
 use Rattle.std.specs.Vec.{with_items}
 use Rattle.std.proofs.lemmas.List.{with_items_is}
 use Rattle.orderings.specs.Answer.{granted}
 use Rattle.orderings.specs.Rows.{row}
 use Rattle.orderings.proofs.Judging.{Hold}
 use Rattle.sheets.specs.Book.{open_asks}
-use Rattle.sheets.proofs.Natural.{natural_ordered}
 use Rattle.sheets.proofs.Steps.{opened_by, holds_of}
 use Rattle.sheets.proofs.opening.open.Goals as goal
 
@@ -16,10 +15,9 @@ returns-in-Ok g c =
     let asks = open_asks p.header.variables (vec_len p.table) (vec_len p.order) in
     let holds : Hold asks = holds_of asks (λ a. a ≡ granted []) [] c.in-Ok.ensures in
     let table : vec_items (with_items p.table c.clear.new.table) ≡ c.clear.new.table = with_items_is p.table c.clear.new.table (c.clear.ensures.len ∙ c.deref_mut.ensures.len) in
-    let order : vec_items (with_items p.order c.write_natural_order.new.order) ≡ c.write_natural_order.new.order =
-    with_items_is p.order c.write_natural_order.new.order (ap length c.write_natural_order.ensures ∙ (natural_ordered p.header.variables holds.0.most).eight ∙ sym holds.1.1.0) in
+    let natural = c.natural_order.ensures holds.0.most in
     record {
       answered = c.in-Ok.ensures;
-      outcome = opened_by g.E.Element.admitted shown record { table = with_items p.table c.clear.new.table; order = with_items p.order c.write_natural_order.new.order; header = record { variables = p.header.variables; rows = 0 } }
-          _ _ holds.0 holds.1.0 refl (λ k. ap (λ xs. row (map shown xs) k) table ∙ c.clear.ensures.blanks k) (order ∙ c.write_natural_order.ensures) refl refl;
+      outcome = opened_by g.E.Element.admitted shown record { table = with_items p.table c.clear.new.table; order = c.copy_from_slice.new.self; header = record { variables = p.header.variables; rows = 0 } }
+          _ _ holds.0 holds.1.0 refl (λ k. ap (λ xs. row (map shown xs) k) table ∙ c.clear.ensures.blanks k) (c.copy_from_slice.ensures.items ∙ natural) refl refl;
     }
