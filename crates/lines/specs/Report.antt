@@ -23,7 +23,7 @@ abbrev pub report_lines : Report → List (List ℕ)
 report_lines TooLong = codes "too long" ∷ []
 report_lines (NoLog cause) = spaced (codes "no" ∷ decimal (start_number cause) ∷ []) ∷ []
 report_lines (Log variables kind lines end) =
-    spaced (codes "sheet" ∷ decimal variables ∷ decimal (kind_number kind) ∷ []) ∷
+    spaced (codes "sheet" ∷ decimal variables ∷ decimal kind ∷ []) ∷
     (map line_text (vec_items lines) ++ (spaced (codes "end" ∷ decimal end ∷ []) ∷ []))
 
 -- every line, ended

@@ -7,7 +7,8 @@ use crate::faults::*;
 use orderings::refusals::Refusal;
 use std::fmt::{self, Display};
 
-// What a granted command answers.
+// What a granted command answers, as it is printed. A shortfall and a settling are told in fields of their own:
+// printing rests on no crate of cones or sheets.
 #[derive(Clone, Copy, PartialEq, Eq, Debug)]
 pub enum Told {
     Nothing,
@@ -37,7 +38,7 @@ pub struct Granted {
     pub told: Told,
 }
 
-// The line of one command.
+// The line of one command. It stands around the Result, which can have no Display of its own.
 #[derive(Clone, Copy, PartialEq, Eq, Debug)]
 pub struct Line(pub Result<Granted, Fault>);
 

@@ -74,7 +74,8 @@ pub enum Report {
     // The line of each command, and the place after the last whole one.
     Log {
         variables: u8,
-        kind: Kind,
+        // its byte, as the input had it
+        kind: u8,
         lines: Vec<Line>,
         end: usize,
     },
@@ -112,7 +113,7 @@ impl fmt::Display for Report {
                 lines,
                 end,
             } => {
-                let (kind, lines) = (u8::from(*kind), Ended(lines.as_slice()));
+                let lines = Ended(lines.as_slice());
                 writeln!(f, "sheet {variables} {kind}\n{lines}end {end}")
             }
         }

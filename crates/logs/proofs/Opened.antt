@@ -13,13 +13,12 @@ use Rattle.lines.specs.declared.reports.Report.{Report}
 use Rattle.logs.specs.Told.{Lines}
 use Rattle.logs.specs.Input.{ReportsKind, Kind, Reports, of_kind}
 
-pub logged_from : {E : Type 0} (admits : ℕ → Bool) (shown : E → Shown) (before : Parts E) (sheet : OpenSheet E) (kind : ℕ) (log : List ℕ) (lines : List Line) (end : ℕ) →
-    Opens admits shown before (Ok sheet) → vec_len before.table ≡ 64 → Lines before.header.variables (book admits shown opened sheet.parts) log lines end →
-    VariableCount before.header.variables × (before.header.variables ≡ before.header.variables) × (kind ≡ kind) × Lines before.header.variables (fresh admits before.header.variables 64) log lines end
-logged_from admits shown before sheet kind log lines end opens places told =
-    let n = before.header.variables in
-    let same : book admits shown opened sheet.parts ≡ fresh admits n 64 = opens.outcome.1 ∙ ap (fresh admits n) places in
-    (subst VariableCount (ap (λ (b : Book). b.n) same) opens.outcome.0.variables, refl, refl, subst (λ (b : Book). Lines n b log lines end) same told)
+pub logged_from : {E : Type 0} (admits : ℕ → Bool) (shown : E → Shown) (before : Parts E) (n : ℕ) (sheet : OpenSheet E) (number kind : ℕ) (log : List ℕ) (lines : List Line) (end : ℕ) →
+    before.header.variables ≡ n → vec_len before.table ≡ 64 → number ≡ kind → Opens admits shown before (Ok sheet) → Lines n (book admits shown opened sheet.parts) log lines end →
+    VariableCount n × (n ≡ n) × (number ≡ kind) × Lines n (fresh admits n 64) log lines end
+logged_from admits shown before n sheet number kind log lines end variables places same_kind opens told =
+    let same : book admits shown opened sheet.parts ≡ fresh admits n 64 = opens.outcome.1 ∙ ap (λ v. fresh admits v (vec_len before.table)) variables ∙ ap (fresh admits n) places in
+    (subst VariableCount (ap (λ (b : Book). b.n) same) opens.outcome.0.variables, refl, same_kind, subst (λ (b : Book). Lines n b log lines end) same told)
 
 -- an input of two bytes and more: these, and the part from the third byte on
 abbrev pub from_third : List ℕ → List ℕ

@@ -6,7 +6,7 @@ use Rattle.lines.specs.declared.reports.BadStart.TheVariants.{CutShort, NoSuchKi
 use Rattle.lines.specs.declared.reports.Report.{Report}
 use Rattle.lines.specs.declared.reports.Report.TheVariants.{TooLong, NoLog, Log}
 use Rattle.lines.specs.Words.{each, ended, spaced}
-use Rattle.lines.specs.Report.{kind_number, report_text}
+use Rattle.lines.specs.Report.{report_text}
 use Rattle.runs.proofs.Sound.{a_fresh_book_is_sound}
 use Rattle.logs.specs.Session.{Entry, Logged}
 use Rattle.logs.specs.Told.{entry_text}
@@ -33,7 +33,7 @@ text_of_kind admits n kind log (NoLog CutShort) x = absurd x
 text_of_kind admits n kind log (NoLog NoSuchKind) x = absurd x
 text_of_kind admits n kind log (NoLog BadCount) x = bad_count x
 text_of_kind admits n kind log (Log variables number lines end) (count, same-n, same_kind, told) =
-    subst (KindText admits n kind log) (sym (one_log_text variables n (kind_number number) kind _ (map (entry_text n) told.0) end same-n same_kind told.2)) (logged count told.1)
+    subst (KindText admits n kind log) (sym (one_log_text variables n number kind _ (map (entry_text n) told.0) end same-n same_kind told.2)) (logged count told.1)
 
 -- a kind fixes the families that it admits
 abbrev families : ℕ → ℕ → Bool

@@ -5,7 +5,7 @@ use Rattle.sheets.specs.Book.{fresh}
 use Rattle.lines.specs.declared.reports.BadStart.TheVariants.{CutShort, NoSuchKind, VariableCount as BadCount}
 use Rattle.lines.specs.declared.reports.Report.{Report}
 use Rattle.lines.specs.declared.reports.Report.TheVariants.{TooLong, NoLog, Log}
-use Rattle.lines.specs.Report.{kind_number, report_text}
+use Rattle.lines.specs.Report.{report_text}
 use Rattle.logs.specs.Told.{Lines}
 
 -- the report on a log for a sheet of 64 places, of n variables and the kind that admits such families
@@ -15,7 +15,7 @@ ReportsKind admits n kind log (NoLog CutShort) = ⊥
 ReportsKind admits n kind log (NoLog NoSuchKind) = ⊥
 ReportsKind admits n kind log (NoLog BadCount) = VariableCount n → ⊥
 ReportsKind admits n kind log (Log variables number lines end) =
-    VariableCount n × (variables ≡ n) × (kind_number number ≡ kind) × Lines n (fresh admits n 64) log (vec_items lines) end
+    VariableCount n × (variables ≡ n) × (number ≡ kind) × Lines n (fresh admits n 64) log (vec_items lines) end
 
 -- the kinds: 0 for plain terms, whose family is 0, and 1 for derivatives, whose families are 1 to 16
 pub data Kind : ℕ → (ℕ → Bool) → Type 0 where

@@ -5,10 +5,10 @@ ghost use Rattle.logs.specs.Input.{Reports, ReportsKind, Prints};
 ghost use Rattle.logs.specs.Laws.{EveryLogIsARunUnderTheLaw, AnInputHasOneOutput};
 
 use crate::reading::lines_of;
-use elements::{Derivative, Element, PlainTerm, blank};
+use elements::{Derivative, Element, PlainTerm};
 use lines::reports::*;
 use runs::requests::*;
-use sheets::opening::open;
+use sheets::opening::{open, parts_for};
 use sheets::parts::*;
 use std::alloc::{AllocError, Global};
 
@@ -25,20 +25,13 @@ fn report_kind<E: Element>(
     requires { length log.now ≤ 65534 }
     ensures { IfOk result (ReportsKind E.Element.admitted variables (kind_number kind) log.now) }
 {
-    let table = vec![in heap; blank::<E>(); 64]?;
-    let order = vec![in heap; 0; 8]?;
-    let header = Header { variables, rows: 0 };
-    let opened = open(Parts {
-        table,
-        order,
-        header,
-    });
-    match opened {
+    let parts = parts_for::<E>(heap, variables, 64)?;
+    match open(parts) {
         Ok(sheet) => {
             let (lines, end) = lines_of(heap, Sheet::Open(sheet), variables, log)?;
             Ok(Report::Log {
                 variables,
-                kind,
+                kind: kind.into(),
                 lines,
                 end,
             })

@@ -8,10 +8,9 @@ mod prefixes;
 mod sheet;
 mod terms;
 
-use elements::{Element, PlainTerm, blank};
+use elements::{Element, PlainTerm};
 use page::Page;
-use sheets::parts::*;
-use std::alloc::{AllocError, Global};
+use sheets::opening::parts_for;
 use std::io;
 
 // The ordering 1,2.
@@ -25,25 +24,10 @@ fn term(x1: u16, x2: u16) -> PlainTerm {
     <PlainTerm as Element>::make(0, [x1, x2, 0, 0, 0, 0, 0, 0])
 }
 
-// Parts with room for so many rows in 2 variables.
-fn parts(heap: Global, places: usize) -> Result<Parts<PlainTerm>, AllocError> {
-    let table = vec![in heap; blank(); places]?;
-    let order = vec![in heap; 0u8; 8]?;
-    let header = Header {
-        variables: 2,
-        rows: 0,
-    };
-    Ok(Parts {
-        table,
-        order,
-        header,
-    })
-}
-
 fn main(rt: HostRuntime) -> io::Result<()> {
     let heap = rt.alloc();
-    let first = parts(heap, 4)?;
-    let second = parts(heap, 2)?;
+    let first = parts_for(heap, 2, 4)?;
+    let second = parts_for(heap, 2, 2)?;
     let page = Page::new(rt);
     let set = [term(3, 0), term(1, 1), term(0, 2)];
     terms::tell(&page, &set);

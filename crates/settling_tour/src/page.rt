@@ -5,7 +5,7 @@ use std::fmt::Display;
 use std::io;
 
 // Prints what it is told, piece by piece, and keeps the last failure for the end: `print!` and `println!` take it as they take
-// the runtime, and give nothing.
+// the runtime, and give nothing. With `?` at each print, as in `tour`, every one of the many small steps would have to hand failures on.
 #[derive(Drop)]
 pub(crate) struct Page {
     rt: HostRuntime,

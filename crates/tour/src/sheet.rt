@@ -1,25 +1,16 @@
 // The set on a sheet of four places: open, insert, withdraw, arrange, and what is refused.
 use crate::{DOWN, bars, verdicts};
-use elements::{Element, PlainTerm, blank};
+use elements::{Element, PlainTerm};
 use lines::written::{Listed, Monomial};
 use orderings::refusals::Refusal;
-use sheets::opening::open;
+use sheets::opening::{open, parts_for};
 use sheets::parts::*;
 use std::io;
 
 pub(crate) fn tell(rt: &HostRuntime, set: &[PlainTerm]) -> io::Result<()> {
-    let table = vec![in rt.alloc(); blank(); 4]?;
-    let order = vec![in rt.alloc(); 0u8; 8]?;
-    let header = Header {
-        variables: 2,
-        rows: 0,
-    };
+    let parts = parts_for(rt.alloc(), 2, 4)?;
     println!(rt; "A sheet of 4 places for 2 variables:")?;
-    match open(Parts {
-        table,
-        order,
-        header,
-    }) {
+    match open(parts) {
         Ok(sheet) => tell_edits(rt, sheet, set),
         Err(Denied { back: _, why }) => tell_refusal(rt, why),
     }

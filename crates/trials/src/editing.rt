@@ -2,7 +2,7 @@
 use crate::making::*;
 use elements::{Derivative, PlainTerm};
 use orderings::refusals::Refusal;
-use sheets::opening::open;
+use sheets::opening::{open, parts_for};
 use sheets::parts::*;
 use std::alloc::{AllocError, Global};
 use std::process::Abort;
@@ -99,8 +99,28 @@ fn altered_parts_are_no_sheet(rt: HostRuntime) -> Result<(), Fail> {
 }
 
 #[test]
+fn parts_are_made_for_a_sheet(rt: HostRuntime) -> Result<(), Fail> {
+    let made: Parts<PlainTerm> = parts_for(rt.alloc(), 3, 5)?;
+    assert_eq!(rt;
+        made.header,
+        Header {
+            variables: 3,
+            rows: 0,
+        }
+    );
+    assert_eq!(rt; made.table.len(), 5);
+    assert_eq!(rt; made.order.len(), 8);
+    let sheet = opened(made)?;
+    assert_eq!(rt;
+        sheet.parts.order.as_slice(),
+        [1, 2, 3, 0, 0, 0, 0, 0].as_slice()
+    );
+    Ok(())
+}
+
+#[test]
 fn families_differ(rt: HostRuntime) -> Result<(), Fail> {
-    let mut sheet = opened(blank_parts::<Derivative>(rt.alloc(), 1, 3)?)?;
+    let mut sheet = opened(parts_for::<Derivative>(rt.alloc(), 1, 3)?)?;
     assert_eq!(rt; sheet.insert(derivative(1, 1, 0)), Ok(0));
     assert_eq!(rt; sheet.insert(derivative(2, 1, 0)), Ok(1));
     assert_eq!(rt;

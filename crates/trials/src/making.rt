@@ -1,8 +1,7 @@
 // What the tests are made of.
-use elements::{Derivative, Element, PlainTerm, blank};
+use elements::{Derivative, Element, PlainTerm};
 use sheets::opening::open;
 use sheets::parts::*;
-use std::alloc::{AllocError, Global};
 use std::test::Fail;
 
 // The term with these exponents of x1, x2 and x3.
@@ -30,22 +29,6 @@ pub(crate) fn six() -> [PlainTerm; 6] {
         term(1, 2, 2),
         term(0, 0, 5),
     ]
-}
-
-// Parts for so many variables and places, with no row.
-pub(crate) fn blank_parts<E: Element>(
-    heap: Global,
-    variables: u8,
-    places: usize,
-) -> Result<Parts<E>, AllocError> {
-    let table = vec![in heap; blank(); places]?;
-    let order = vec![in heap; 0u8; 8]?;
-    let header = Header { variables, rows: 0 };
-    Ok(Parts {
-        table,
-        order,
-        header,
-    })
 }
 
 // The sheet that is opened over the parts.

@@ -6,6 +6,7 @@ use cones::judging::limits_by;
 use divisions::{Janet, JanetLike};
 use elements::PlainTerm;
 use orderings::refusals::Refusal;
+use sheets::opening::parts_for;
 use sheets::parts::*;
 use std::process::Abort;
 use std::test::Fail;
@@ -17,7 +18,7 @@ fn sheet(
     rt: &(impl Abort + AllocGlobal),
     rows: &[PlainTerm],
 ) -> Result<OpenSheet<PlainTerm>, Fail> {
-    let mut sheet = opened(blank_parts(rt.alloc(), 3, 8)?)?;
+    let mut sheet = opened(parts_for(rt.alloc(), 3, 8)?)?;
     for row in rows {
         assert!(rt; sheet.insert(*row).is_ok());
     }

@@ -7,6 +7,7 @@ use std::{fs, io};
 fn main(rt: HostRuntime) -> io::Result<()> {
     let stored = fs::read(&rt, "logs")?;
     let mut rest = stored.as_slice();
+    // what is left is handed on as a part; that there are at most so many logs is what ends the loop
     'logs: for number in 0..1000u32 {
         let [a, b, c, d, after @ ..] = rest else {
             break 'logs;

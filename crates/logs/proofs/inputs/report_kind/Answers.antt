@@ -5,5 +5,6 @@ use Rattle.logs.proofs.inputs.report_kind.Goals as goal
 
 pub returns-in-Ok : goal.returns-in-Ok
 returns-in-Ok g c =
-    logged_from g.E.Element.admitted g.E.Element.shown record { table = c.in_ok-table.table; order = c.in_ok-order.order; header = record { variables = c.args.variables; rows = 0 } }
-    c.in-Ok.sheet (kind_number c.args.kind) c.args.log.now (vec_items c.in_ok-lines-in-Ok.lines) c.in_ok-lines-in-Ok.end c.in-Ok.ensures c.in_ok-table.ensures.len c.in_ok-lines-in-Ok.ensures
+    let made = c.in_ok-parts.ensures in
+    logged_from g.E.Element.admitted g.E.Element.shown c.in_ok-parts.parts c.args.variables
+    c.in-Ok.sheet _ (kind_number c.args.kind) c.args.log.now (vec_items c.in_ok-lines-in-Ok.lines) c.in_ok-lines-in-Ok.end made.header.0 made.places c.into.ensures c.in-Ok.ensures c.in_ok-lines-in-Ok.ensures
