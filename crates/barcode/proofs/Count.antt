@@ -1,49 +1,33 @@
 -- The number of a bar counts the different lower bars. Assumes nothing.
-use Rattle.std.proofs.Common.{◌≡◌, ℕ, zero, suc, ◌+◌, ◌<◌, ◌≤◌, Bool, true, false, not, ◌&&◌, ◌⊎◌, List, [], ◌∷◌, ◌++◌, length, Decides, filter, sym, refl, ap, ◌∙◌, subst, inl, inr, arith}
+use Rattle.std.proofs.Common.{◌≡◌, ℕ, zero, suc, ◌+◌, ◌<◌, ◌≤◌, Bool, true, ◌&&◌, ◌⊎◌, List, [], ◌∷◌, length, map, filter, add-one, sym, refl, ap, ◌∙◌, subst, inl, inr, arith}
 use Rattle.std.specs.List.{range_with_len, AllByRecursion as All}
-use Rattle.std.proofs.lemmas.List.FromFn.{map-range_with_len_more}
-use Rattle.std.proofs.lemmas.List.Elements.{filter-append}
 use Rattle.std.proofs.ByRecursion.{all_kept_by}
-use Rattle.std.proofs.lemmas.List.{map-id, length_push, append-nil}
-use Rattle.std.proofs.lemmas.Bool.{cases_Bool, cases_order, cases_lt, cond-true, cond-false, cond_both, and_parts, and_from, both_ways, not_from_false}
+use Rattle.std.proofs.lemmas.List.{length-map}
+use Rattle.std.proofs.lemmas.Bool.{cases_Bool, cases_order, cases_lt, cond-true, cond-false, cond_both, and_parts, and_from, both_ways}
 use Rattle.elements.specs.Element.{Shown}
 use Rattle.orderings.specs.Rows.{row}
 use Rattle.orderings.proofs.Lines.{first}
-use Rattle.barcode.specs.Bars.{SameBar, LowerBar, same_bar, lower_bar, opens_bar, Among, Increasing, BarNumberCountsTheDifferentLowerBars}
+use Rattle.barcode.specs.Bars.{SameBar, LowerBar, same_bar, lower_bar, opens_bar, bar_number, Among, Increasing, BarNumberCountsTheDifferentLowerBars}
 use Rattle.barcode.proofs.Tested.{same_bar_decides, lower_bar_decides}
-use Rattle.barcode.proofs.Found.{opens_not}
-
--- one place more
-counting_more : (n : ℕ) → range_with_len 0 (n + 1) ≡ range_with_len 0 n ++ n ∷ []
-counting_more n = sym (map-id (range_with_len 0 (n + 1))) ∙ map-range_with_len_more (λ (x : ℕ). x) 0 n n (omega arith) ∙ ap (λ xs. xs ++ n ∷ []) (map-id (range_with_len 0 n))
+use Rattle.barcode.proofs.Found.{opens_not, opens_all}
 
 module _ (f : ℕ → Bool) where
-  pub kept_yes : (n : ℕ) → f n ≡ true → length (filter f (range_with_len 0 (n + 1))) ≡ length (filter f (range_with_len 0 n)) + 1
-  kept_yes n t =
-      ap (λ xs. length (filter f xs)) (counting_more n) ∙ ap length (filter-append f (range_with_len 0 n) (n ∷ [])) ∙
-      ap (λ xs. length (filter f (range_with_len 0 n) ++ xs)) (cond-true (f n) (n ∷ []) [] t) ∙ length_push (filter f (range_with_len 0 n)) n
+  at_most : (a n : ℕ) → length (filter f (range_with_len a n)) ≤ n
+  at_most a zero = omega arith
+  at_most a (suc n) =
+      cond_both (f a) (a ∷ filter f (range_with_len (a + 1) n)) (filter f (range_with_len (a + 1) n)) (λ xs. length xs ≤ suc n)
+      (λ _. omega (arith, at_most (a + 1) n)) (λ _. omega (arith, at_most (a + 1) n))
 
-  pub kept_not : (n : ℕ) → f n ≡ false → length (filter f (range_with_len 0 (n + 1))) ≡ length (filter f (range_with_len 0 n))
-  kept_not n t =
-      ap (λ xs. length (filter f xs)) (counting_more n) ∙ ap length (filter-append f (range_with_len 0 n) (n ∷ [])) ∙
-      ap (λ xs. length (filter f (range_with_len 0 n) ++ xs)) (cond-false (f n) (n ∷ []) [] t) ∙ ap length (append-nil (filter f (range_with_len 0 n)))
-
-  -- the lower bars of the places before q are counted, and place is none of them
-  abbrev pub Counted : ℕ → ℕ → ℕ → Type 0
-  Counted place q lower = (lower ≡ length (filter f (range_with_len 0 q))) × (lower ≤ q) × (place < q → lower < q)
-
-  pub counted_yes : (place q lower : ℕ) → f q ≡ true → (f place ≡ true → ⊥) → Counted place q lower → Counted place (q + 1) (lower + 1)
-  counted_yes place q lower t other (e, l, h) = (
-    omega (arith, kept_yes q t),
-    omega arith,
-    λ m. elim (cases_order place q) [
-      | inl s ↦ absurd (other (ap f s ∙ t))
-      | inr o ↦ elim o [ inl k ↦ omega (arith, h k) | inr k ↦ absurd (omega arith) ]
-    ],
-  )
-
-  pub counted_not : (place q lower : ℕ) → f q ≡ false → Counted place q lower → Counted place (q + 1) lower
-  counted_not place q lower t (e, l, h) = (omega (arith, kept_not q t), omega arith, λ m. omega arith)
+  -- not all are counted where one is passed over
+  pub fewer : (a n p : ℕ) → a ≤ p → p < a + n → (f p ≡ true → ⊥) → length (filter f (range_with_len a n)) < n
+  fewer a zero p l h out = absurd (omega arith)
+  fewer a (suc n) p l h out = elim (cases_lt a p) [
+    | inl m ↦ cond_both (f a) (a ∷ filter f (range_with_len (a + 1) n)) (filter f (range_with_len (a + 1) n)) (λ xs. length xs < suc n)
+        (λ _. omega (arith, fewer (a + 1) n p (omega arith) (omega arith) out)) (λ _. omega (arith, at_most (a + 1) n))
+    | inr m ↦ (let here : a ≡ p = omega arith in
+        cond_both (f a) (a ∷ filter f (range_with_len (a + 1) n)) (filter f (range_with_len (a + 1) n)) (λ xs. length xs < suc n)
+        (λ t. absurd (out (ap f (sym here) ∙ t))) (λ _. omega (arith, at_most (a + 1) n)))
+  ]
 
   among_kept : (xs : List ℕ) (x : ℕ) → Among x (filter f xs) → Among x xs × (f x ≡ true)
   among_kept [] x a = absurd a
@@ -108,16 +92,6 @@ module _ (order : List ℕ) (v : ℕ) where
       }
 
 module _ (rows : List Shown) (order : List ℕ) (v : ℕ) where
-  opens_from : (q k : ℕ) → ((j : ℕ) → j < k → SameBar order v (row rows j) (row rows q) → ⊥) → opens_bar rows order v q k ≡ true
-  opens_from q zero h = refl
-  opens_from q (suc k) h =
-      and_from (not (same_bar order v (row rows k) (row rows q))) _ (not_from_false _ (untrue (same_bar order v (row rows k) (row rows q)) (same_bar_decides order v (row rows k) (row rows q))))
-      (opens_from q k (λ j l. h j (omega arith)))
-    where
-      untrue : (b : Bool) → Decides b (SameBar order v (row rows k) (row rows q)) → b ≡ false
-      untrue true d = absurd (h k (omega arith) (d.0 refl))
-      untrue false d = refl
-
   decided : (j q : ℕ) → (SameBar order v (row rows j) (row rows q) → ⊥) ⊎ ((SameBar order v (row rows j) (row rows q) → ⊥) → ⊥)
   decided j q = elim (cases_Bool (same_bar order v (row rows j) (row rows q))) [
     | inl t ↦ inr (λ h. h ((same_bar_decides order v (row rows j) (row rows q)).0 t))
@@ -129,7 +103,7 @@ module _ (rows : List Shown) (order : List ℕ) (v : ℕ) where
   first_over q = elim (first (λ j. SameBar order v (row rows j) (row rows q) → ⊥) (λ j. decided j q) (suc q)) [
     | inl none ↦ absurd (none q (omega arith) (record { family = refl; agree = λ j l. refl }))
     | inr f ↦ (let s = shares f.0 f.3 in
-        (f.0, omega (arith, f.1), s, opens_from f.0 f.0 (λ j l t. f.2 j l (same_trans order v (row rows j) (row rows f.0) (row rows q) t s))))
+        (f.0, omega (arith, f.1), s, opens_all rows order v f.0 f.0 (λ j l t. f.2 j l (same_trans order v (row rows j) (row rows f.0) (row rows q) t s))))
   ]
     where
       shares : (j : ℕ) → ((SameBar order v (row rows j) (row rows q) → ⊥) → ⊥) → SameBar order v (row rows j) (row rows q)
@@ -152,6 +126,21 @@ pub not_itself : (rows : List Shown) (order : List ℕ) (v p : ℕ) → (opens_b
 not_itself rows order v p t =
     let b = (lower_bar_decides order v (row rows p) (row rows p)).0 (and_parts (opens_bar rows order v p p) (lower_bar order v (row rows p) (row rows p)) t).1 in
     omega (arith, b.parts.smaller)
+
+-- what the code counts: the lower bars, of which the row's own is none
+module _ {X : Type 0} (shown : X → Shown) (xs : List X) (order : List ℕ) (v p : ℕ) (u : X) (l : p < length xs) (e : row (map shown xs) p ≡ shown u) (n : ℕ)
+    (c : n ≡ length (filter (λ q. opens_bar (map shown xs) order v q q && lower_bar order v (row (map shown xs) q) (shown u)) (range_with_len 0 (length xs)))) where
+  pub counted : n + 1 ≡ bar_number (map shown xs) order (row (map shown xs) p) v
+  counted = rw (e, length-map xs shown) (add-one n ∙ ap suc c)
+
+  pub below_all : n < length xs
+  below_all =
+      omega (
+        arith,
+        c,
+        fewer (λ q. opens_bar (map shown xs) order v q q && lower_bar order v (row (map shown xs) q) (shown u)) 0 (length xs) p (omega arith) (omega arith)
+            (λ t. not_itself (map shown xs) order v p (subst (λ (x : Shown). (opens_bar (map shown xs) order v p p && lower_bar order v (row (map shown xs) p) x) ≡ true) (sym e) t)),
+      )
 
 pub bar_number_counts : BarNumberCountsTheDifferentLowerBars
 bar_number_counts rows order u v =

@@ -1,14 +1,23 @@
 -- What the code finds of bars. Assumes nothing.
-use Rattle.std.proofs.Common.{◌≡◌, ℕ, zero, suc, ◌<◌, Bool, true, false, not, List, length, map, take, get_or, Decides, sym, refl, ap, ◌∙◌, inl, inr, arith}
+use Rattle.std.proofs.Common.{◌≡◌, ℕ, zero, suc, ◌-◌, ◌<◌, ◌≤◌, Bool, true, false, not, eqb, List, length, map, take, get_or, Some, None, Option, MatchOption, Decides, sym, refl, ap, ◌∙◌, inl, inr, arith}
 use Rattle.std.specs.Bool.{MatchBool}
+use Rattle.std.specs.Option.{SomeIff, option_eq}
 use Rattle.std.specs.List.{AllWithin, HoldsAt}
 use Rattle.std.proofs.lemmas.List.{get_or_past, get_or-map, get_or-take, length-take}
-use Rattle.std.proofs.lemmas.Bool.{cases_lt, cases_eq, and_left, and_right, and_from, not_from_true, not_from_false}
-use Rattle.elements.specs.Element.{Shown, blank}
-use Rattle.orderings.specs.Order.{Agree}
+use Rattle.std.proofs.lemmas.Bool.{cases_lt, cases_eq, cases_order, false≢true, and_left, and_right, and_from, not_from_true, not_from_false}
+use Rattle.std.proofs.lemmas.Bool.Decides.{Decides-like, Decides-eqb}
+use Rattle.elements.specs.Element.{Shown, exponent, blank}
+use Rattle.orderings.specs.Order.{at, Agree, DifferAt}
 use Rattle.orderings.specs.Rows.{row}
-use Rattle.barcode.specs.Bars.{SameBar, LowerBar, same_bar, opens_bar}
-use Rattle.barcode.proofs.Tested.{same_bar_decides}
+use Rattle.barcode.specs.Bars.{position, SameBar, LowerBar, same_bar, opens_bar}
+use Rattle.barcode.specs.Gap.{height, rise}
+use Rattle.barcode.proofs.Listed.{position_holds}
+use Rattle.barcode.proofs.Tested.{same_bar_decides, none_elsewhere, rise_none, rise_some}
+
+-- the code's test of a number that may be absent
+pub is_some_decides : (o : Option ℕ) (k : ℕ) → Decides (option_eq eqb o (Some k)) (o ≡ Some k)
+is_some_decides None k = (λ t. absurd (false≢true t), λ e. let z : ◌≡◌ {A = ℕ} 0 1 = cc in absurd (omega arith))
+is_some_decides (Some x) k = Decides-like (eqb x k) (λ e. ap Some e) (λ e. cc) (Decides-eqb x k)
 
 module _ (order : List ℕ) (v : ℕ) (u w : Shown) where
   -- who agrees in the whole list agrees at every position
@@ -18,8 +27,52 @@ module _ (order : List ℕ) (v : ℕ) (u w : Shown) where
     | inr h ↦ (let z = get_or_past order j 0 h in rw z refl)
   ]
 
-  pub never_lower : Agree order (length order) u w → LowerBar order v u w → ⊥
+  never_lower : Agree order (length order) u w → LowerBar order v u w → ⊥
   never_lower a b = omega (arith, agree_all a (suc b.at_position) b.at_position (omega arith), b.parts.smaller)
+
+  -- the bar of u is lower exactly where u has the smaller exponent at the first difference, if that is not past v
+  pub lower_told : (part : Option ℕ) (r : Bool) (Told : ℕ → Type 0) → u.family ≡ w.family → MatchOption part (Agree order (length order) u w) (λ k. DifferAt order k u w) →
+      MatchOption part (r ≡ false) Told → ((k : ℕ) → Told k → Decides r ((k ≤ position order v) × (exponent u (at order k) < exponent w (at order k)))) → Decides r (LowerBar order v u w)
+  lower_told None r Told f a none told = (λ t. absurd (false≢true (sym none ∙ t)), λ b. absurd (never_lower a b))
+  lower_told (Some k) r Told f d here told =
+      let t = told k here in (
+        λ e. record { at_position = k; down_to = (t.0 e).0; parts = record { family = f; above = d.above; smaller = (t.0 e).1 } },
+        λ b. t.1 (at_first b),
+      )
+    where
+      at_first : LowerBar order v u w → (k ≤ position order v) × (exponent u (at order k) < exponent w (at order k))
+      at_first b = elim (cases_order k b.at_position) [
+        | inl e ↦ (omega (arith, e, b.down_to), rw e b.parts.smaller)
+        | inr o ↦ elim o [
+          | inl l ↦ absurd (d.here (b.parts.above k l))
+          | inr l ↦ absurd (omega (arith, d.above b.at_position l, b.parts.smaller))
+        ]
+      ]
+
+  -- w rises nowhere but where the first difference stands at the position of v
+  pub none_apart : (part : Option ℕ) → MatchOption part (Agree order (length order) u w) (λ k. DifferAt order k u w) → (part ≡ Some (position order v) → ⊥) → None ≡ rise order v u w
+  none_apart None a ne = sym (rise_none order v u w (λ r. omega (arith, agree_all a (suc (position order v)) (position order v) (omega arith), r.smaller)))
+  none_apart (Some k) d ne = sym (rise_none order v u w (none_elsewhere order v u w k d (λ e. ne (ap Some e))))
+
+  -- there it rises by the difference, if that is not below 0
+  pub rise_at : (part got : Option ℕ) (low high : ℕ) → u.family ≡ w.family → MatchOption part (Agree order (length order) u w) (λ k. DifferAt order k u w) → part ≡ Some (position order v) → low ≡ exponent u v → high ≡ exponent w v →
+      SomeIff got (low ≤ high) (high - low) → got ≡ rise order v u w
+  rise_at part got low high f m at el eh is = told got is
+    where
+      d : DifferAt order (position order v) u w
+      d = rw at at m
+
+      before : low ≡ height order v u
+      before = el ∙ ap (exponent u) (sym (position_holds order v d.inside))
+
+      after : high ≡ height order v w
+      after = eh ∙ ap (exponent w) (sym (position_holds order v d.inside))
+
+      told : (got : Option ℕ) → SomeIff got (low ≤ high) (high - low) → got ≡ rise order v u w
+      told None under = sym (rise_none order v u w (λ r. under (omega (arith, before, after, r.smaller))))
+      told (Some x) (le, e) =
+          ap Some (omega (arith, e, before, after)) ∙
+          sym (rise_some order v u w (record { family = f; above = d.above; smaller = omega (arith, le, before, after, d.here) }))
 
 -- a row over the same bar before place q
 module _ (rows : List Shown) (order : List ℕ) (v q : ℕ) where
@@ -30,7 +83,7 @@ module _ (rows : List Shown) (order : List ℕ) (v q : ℕ) where
     | inr ne ↦ and_right (not (same_bar order v (row rows k) (row rows q))) _ (opens_not j k (omega arith) s)
   ]
 
-  opens_all : (k : ℕ) → ((j : ℕ) → j < k → SameBar order v (row rows j) (row rows q) → ⊥) → opens_bar rows order v q k ≡ true
+  pub opens_all : (k : ℕ) → ((j : ℕ) → j < k → SameBar order v (row rows j) (row rows q) → ⊥) → opens_bar rows order v q k ≡ true
   opens_all zero h = refl
   opens_all (suc k) h =
       and_from (not (same_bar order v (row rows k) (row rows q))) _

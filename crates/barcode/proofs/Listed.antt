@@ -1,6 +1,6 @@
 -- Where a variable stands in an ordering. Assumes nothing.
-use Rattle.std.proofs.Common.{◌≡◌, ℕ, zero, suc, ◌<◌, ◌≤◌, eqb, List, [], ◌∷◌, length, sym, refl, ap, ◌∙◌, arith}
-use Rattle.std.proofs.lemmas.Bool.{cond-true, cond-false, eq-eqb, ne_eqb}
+use Rattle.std.proofs.Common.{◌≡◌, ℕ, zero, suc, ◌<◌, ◌≤◌, eqb, List, [], ◌∷◌, length, sym, refl, ap, ◌∙◌, inl, inr, arith}
+use Rattle.std.proofs.lemmas.Bool.{cond-true, cond-false, cases_eq, eq-eqb, ne_eqb}
 use Rattle.orderings.specs.Order.{at, IsOrdering}
 use Rattle.orderings.proofs.Positions.{few, position as found}
 use Rattle.barcode.specs.Bars.{position}
@@ -12,10 +12,13 @@ position_is (x ∷ xs) (suc k) v l e h =
     cond-false (eqb x v) 0 (suc (position xs v)) (ne_eqb x v (h 0 (omega arith))) ∙
     ap suc (position_is xs k v (omega arith) e (λ j m. h (suc j) (omega arith)))
 
-pub position_none : (xs : List ℕ) (v : ℕ) → ((j : ℕ) → j < length xs → at xs j ≡ v → ⊥) → position xs v ≡ length xs
-position_none [] v h = refl
-position_none (x ∷ xs) v h =
-    cond-false (eqb x v) 0 (suc (position xs v)) (ne_eqb x v (h 0 (omega arith))) ∙ ap suc (position_none xs v (λ j m. h (suc j) (omega arith)))
+-- where a variable has a position in the list, it stands there
+pub position_holds : (xs : List ℕ) (v : ℕ) → position xs v < length xs → at xs (position xs v) ≡ v
+position_holds [] v l = absurd (omega arith)
+position_holds (x ∷ xs) v l = elim (cases_eq x v) [
+  | inl e ↦ (let p = cond-true (eqb x v) 0 (suc (position xs v)) (eq-eqb x v e) in rw p e)
+  | inr ne ↦ (let p = cond-false (eqb x v) 0 (suc (position xs v)) (ne_eqb x v ne) in rw p (position_holds xs v (omega (arith, l, p))))
+]
 
 -- the variable at a position of an ordering stands there first
 pub position_at : (n : ℕ) (order : List ℕ) → IsOrdering n order → (k : ℕ) → k < n → n ≤ 8 → position order (at order k) ≡ k

@@ -1,5 +1,5 @@
 -- The tests of bars say what the words say. Assumes nothing.
-use Rattle.std.proofs.Common.{◌≡◌, ℕ, zero, suc, ◌-◌, ◌<◌, ◌≤◌, Bool, true, false, ◌&&◌, eqb, ltb, List, [], ◌∷◌, take, Some, None, Decides, sym, refl, ap, ◌∙◌, inl, inr, arith}
+use Rattle.std.proofs.Common.{◌≡◌, ℕ, zero, suc, ◌-◌, ◌<◌, Bool, true, false, ◌&&◌, eqb, ltb, List, [], ◌∷◌, take, Some, None, Decides, refl, inl, inr, arith}
 use Rattle.std.proofs.lemmas.Bool.{and_parts, and_from, or_cases, or_left, or_right, lt-ltb, ltb-true, eq-eqb, eqb-true, cond-true, cond-false, cases_order, false≢true}
 use Rattle.std.proofs.lemmas.Bool.Decides.{Decides-and, Decides-eqb, Decides-ltb, Decides-like}
 use Rattle.elements.specs.Element.{Shown, exponent}
@@ -83,14 +83,3 @@ module _ (order : List ℕ) (v : ℕ) (u w : Shown) where
     | inl e ↦ ne e
     | inr o ↦ elim o [ inl l ↦ d.here (r.above k l) | inr l ↦ omega (arith, d.above (position order v) l, r.smaller) ]
   ]
-
-  pub none_falling : (k low high : ℕ) → k ≡ position order v → low ≡ exponent u (at order k) → high ≡ exponent w (at order k) → high ≤ low → Rises order v u w → ⊥
-  none_falling k low high here el eh l r = let x = rw here at el in let y = rw here at eh in omega (arith, x, y, r.smaller)
-
-  pub rise_here : (k low high : ℕ) → k ≡ position order v → u.family ≡ w.family → Agree order k u w → low ≡ exponent u (at order k) → high ≡ exponent w (at order k) →
-      low < high → Some (high - low) ≡ rise order v u w
-  rise_here k low high here family above el eh l =
-      let a = rw here at above in
-      let x = rw here at el in
-      let y = rw here at eh in
-      ap Some (omega (arith, x, y)) ∙ sym (rise_some order v u w (record { family = family; above = a; smaller = omega (arith, x, y) }))

@@ -33,15 +33,12 @@ fn same_family<E: Element>(u: &E, w: &E) -> bool
 fn rise<E: Element>(u: &E, w: &E, order: &[u8], variable: u8) -> Option<u16>
     ensures { result ≡ rise_of order.now variable (E.Element.shown u.now) (E.Element.shown w.now) }
 {
-    if !same_family(u, w) {
-        return None;
-    }
-    let k = part_at(u, w, order)?;
-    let v = order[k];
-    let low = exponent_of(&u.exponents(), v);
-    let high = exponent_of(&w.exponents(), v);
-    if k == position(order, variable) && low < high {
-        Some(high - low)
+    let here = position(order, variable);
+    if same_family(u, w) && part_at(u, w, order) == Some(here) {
+        let low = exponent_of(&u.exponents(), variable);
+        let high = exponent_of(&w.exponents(), variable);
+        // They differ, so no rise is 0.
+        high.checked_sub(low)
     } else {
         None
     }
@@ -51,33 +48,20 @@ fn rise<E: Element>(u: &E, w: &E, order: &[u8], variable: u8) -> Option<u16>
 fn over_same_bar<E: Element>(u: &E, w: &E, order: &[u8], variable: u8) -> bool
     ensures { Decides result (SameBar order.now variable (E.Element.shown u.now) (E.Element.shown w.now)) }
 {
-    if !same_family(u, w) {
-        return false;
-    }
     let here = position(order, variable);
-    match part_at(u, w, order) {
-        None => true,
-        Some(k) => k > here,
-    }
+    same_family(u, w) && part_at(u, w, order).is_none_or(|k| k > here)
 }
 
 // Whether u lies over a lower bar of a variable than w.
 fn over_lower_bar<E: Element>(u: &E, w: &E, order: &[u8], variable: u8) -> bool
     ensures { Decides result (LowerBar order.now variable (E.Element.shown u.now) (E.Element.shown w.now)) }
 {
-    if !same_family(u, w) {
-        return false;
-    }
     let here = position(order, variable);
-    match part_at(u, w, order) {
-        None => false,
-        Some(k) => {
+    same_family(u, w)
+        && part_at(u, w, order).is_some_and(|k| {
             let v = order[k];
-            let low = exponent_of(&u.exponents(), v);
-            let high = exponent_of(&w.exponents(), v);
-            k <= here && low < high
-        }
-    }
+            k <= here && exponent_of(&u.exponents(), v) < exponent_of(&w.exponents(), v)
+        })
 }
 
 // Rows of any kind under an ordering of their variables.
@@ -120,6 +104,15 @@ impl<E: Element> Ranked<'_, E> {
             .any(|before| over_same_bar(before, row, order, variable))
     }
 
+    // Whether the row of a place opens a bar of a variable that is lower than that under another row.
+    fn opens_lower_bar(&self, place: usize, row: &E, variable: u8) -> bool
+        requires { place < length self.now.rows.now }
+        ensures { result ≡ (opens_bar (map E.Element.shown self.now.rows.now) self.now.order.now variable place place && lower_bar self.now.order.now variable (at_place (map E.Element.shown self.now.rows.now) place) (E.Element.shown row.now)) }
+    {
+        self.opens_bar(place, variable)
+            && over_lower_bar(&self.rows[place], row, self.order, variable)
+    }
+
     // The number of the bar of a variable under the row of a place: 1 and one for each different lower bar. 0 at a place without a row.
     pub fn bar_number(&self, place: usize, variable: u8) -> usize
         ensures row { place < length self.now.rows.now → result ≡ bar_number (map E.Element.shown self.now.rows.now) self.now.order.now (at_place (map E.Element.shown self.now.rows.now) place) variable }
@@ -129,12 +122,9 @@ impl<E: Element> Ranked<'_, E> {
         let Some(row) = self.rows.get(place) else {
             return 0;
         };
-        let mut lower = 0;
-        for (q, other) in self.rows.iter().enumerate() {
-            if self.opens_bar(q, variable) && over_lower_bar(other, row, self.order, variable) {
-                lower += 1;
-            }
-        }
+        let lower = (0..self.rows.len())
+            .filter(|q| self.opens_lower_bar(*q, row, variable))
+            .count();
         lower + 1
     }
 }

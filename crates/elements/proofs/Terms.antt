@@ -18,11 +18,6 @@ pub entry_none : (xs : List ℕ) (v : ℕ) → v < 1 → entry xs v ≡ 0
 entry_none xs zero h = refl
 entry_none xs (suc k) h = absurd (omega arith)
 
--- the entry of a variable stands one place before its number
-pub entry_place : (xs : List ℕ) (v : ℕ) → 1 ≤ v → entry xs v ≡ get_or xs (v - 1) 0
-entry_place xs zero h = absurd (omega arith)
-entry_place xs (suc k) h = let e : suc k - 1 ≡ k = omega arith in rw e
-
 -- what holds at the eight places holds of every variable
 pub each_variable : (a b : List ℕ) → length a ≡ 8 → ((k : ℕ) → k < 8 → get_or a k 0 ≤ get_or b k 0) → (v : ℕ) → entry a v ≤ entry b v
 each_variable a b n h zero = omega arith

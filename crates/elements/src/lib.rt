@@ -5,6 +5,8 @@ ghost use Rattle.std.specs.Prelude.{◌≡◌, ℕ, ◌≤◌, Bool, true, ◌&&
 ghost use Rattle.elements.specs.Element.{Shown, exponent, entry as entry_of, Divides, Variable, Overflows, power as to_the, product as multiplied, times, quotient as divided, blank as nothing};
 ghost use Rattle.std.proofs.Common.{ap};
 
+use std::array;
+
 // A kind of element. An element shows a family and eight exponents, and is known by them.
 pub trait Element: Copy + Clone {
     ghost shown: { Self → Shown };
@@ -82,10 +84,10 @@ pub fn blank<E: Element>() -> E
 pub fn exponent_of(exponents: &[u16; 8], variable: u8) -> u16
     ensures { result ≡ entry_of exponents.now variable }
 {
-    if variable < 1 || variable > 8 {
-        return 0;
-    }
-    exponents[variable as usize - 1]
+    (variable as usize)
+        .checked_sub(1)
+        .and_then(|index| exponents.get(index).copied())
+        .unwrap_or(0)
 }
 
 // Whether two elements are the same, by what they show. It is no `==`: to ask a kind for that would ask more of it than its laws need,
@@ -118,12 +120,8 @@ pub fn quotient<E: Element>(divisor: &E, multiple: &E) -> Option<[u16; 8]>
     if !divides(divisor, multiple) {
         return None;
     }
-    let small = divisor.exponents();
-    let mut term = multiple.exponents();
-    for (i, least) in small.iter().enumerate() {
-        term[i] -= *least;
-    }
-    Some(term)
+    let (small, large) = (divisor.exponents(), multiple.exponents());
+    Some(array::from_fn(|i| large[i] - small[i]))
 }
 
 // A variable to a power: none where the number is not one of a variable.

@@ -1,10 +1,11 @@
 -- The positions of an ordering. Assumes nothing.
-use Rattle.std.proofs.Common.{◌≡◌, ℕ, zero, suc, ◌+◌, ◌-◌, ◌<◌, ◌≤◌, min, Bool, true, false, List, length, take, drop, get_or, Decides, sym, refl, ap, ◌∙◌, inl, inr, arith}
+use Rattle.std.proofs.Common.{◌≡◌, ℕ, zero, suc, ◌+◌, ◌-◌, ◌<◌, ◌≤◌, min, Bool, true, false, List, length, drop, get_or, Decides, sym, refl, ap, ◌∙◌, inl, inr, arith}
 use Rattle.std.specs.Bool.{MatchBool}
-use Rattle.std.specs.List.{AllWithin, HoldsAt}
-use Rattle.std.proofs.lemmas.List.{get_or_past, get_or-take, get_or-drop, length-drop}
+use Rattle.std.specs.List.{AllWithin, HoldsAt, range_with_len}
+use Rattle.std.proofs.lemmas.List.{get_or_past, get_or-drop, length-drop}
+use Rattle.std.proofs.lemmas.List.FromFn.{length-range_with_len, get_or-range_with_len}
 use Rattle.std.proofs.lemmas.Bool.{cases_lt, cases_order, false≢true}
-use Rattle.orderings.specs.Order.{at, IsOrdering, EachVariableStandsOnce}
+use Rattle.orderings.specs.Order.{at, IsNew, IsOrdering, EachVariableStandsOnce}
 
 -- n different numbers below n are all of them
 onto : (n : ℕ) (f : ℕ → ℕ) → ((k : ℕ) → k < n → f k < n) → ((j k : ℕ) → j < k → k < n → f j ≡ f k → ⊥) →
@@ -52,23 +53,33 @@ each_variable_stands_once n order o v low high =
     let (k, hk, e) = position n order o v low high in
     (k, hk, e, λ j f. one_position n order o j k (omega (arith, f)) (f ∙ sym e))
 
--- the first n bytes are variables, all different; the rest is 0 exactly where the list is an ordering
+counted : (n k : ℕ) → k < n → get_or (range_with_len 0 n) k 0 ≡ k
+counted n k l = omega (arith, get_or-range_with_len 0 n k 0 l)
+
+-- an entry of the first n that is not new
+pub ordering_not : (n : ℕ) (list : List ℕ) →
+    ((k : ℕ) × (k < length (range_with_len 0 n)) × HoldsAt (λ i. IsNew n list i → ⊥) (range_with_len 0 n) k) → IsOrdering n list → ⊥
+ordering_not n list (k, l, h) o =
+    let small : k < n = omega (arith, length-range_with_len 0 n) in
+    rw (counted n k small) at (h 0) (o.low k small, o.high k small, λ (j, m, e). o.distinct j k m small e)
+
+-- the first n entries are new; the rest is 0 exactly where the list is an ordering
 pub ordering_by_parts : (n : ℕ) (list : List ℕ) (r : Bool) → n ≤ 8 → length list ≡ 8 →
-    ((i : ℕ) → i < n → (1 ≤ get_or (take n list) i 0) × (get_or (take n list) i 0 ≤ n) × ((j : ℕ) → j < i → get_or (take n list) j 0 ≡ get_or (take n list) i 0 → ⊥)) →
+    AllWithin (IsNew n list) (range_with_len 0 n) 0 (length (range_with_len 0 n)) →
     MatchBool r (AllWithin (λ x. x ≡ 0) (drop n list) 0 (length (drop n list))) ((k : ℕ) × (k < length (drop n list)) × HoldsAt (λ x. x ≡ 0 → ⊥) (drop n list) k) →
     Decides r (IsOrdering n list)
-ordering_by_parts n list r most eight first rest = told r rest
+ordering_by_parts n list r most eight each rest = told r rest
   where
-    taken : (k : ℕ) → k < n → get_or (take n list) k 0 ≡ at list k
-    taken k l = get_or-take n list k 0 l
+    first : (k : ℕ) → k < n → IsNew n list k
+    first k l = rw (counted n k l) at (each k 0 (omega arith) (omega (arith, length-range_with_len 0 n)))
 
     told : (r : Bool) → MatchBool r (AllWithin (λ x. x ≡ 0) (drop n list) 0 (length (drop n list))) ((k : ℕ) × (k < length (drop n list)) × HoldsAt (λ x. x ≡ 0 → ⊥) (drop n list) k) → Decides r (IsOrdering n list)
     told true zero_rest = (
       λ _. record {
         eight = eight;
-        low = λ k l. rw (← taken k l) (first k l).0;
-        high = λ k l. rw (← taken k l) (first k l).1;
-        distinct = λ j k h l. rw (← taken j (omega arith), ← taken k l) ((first k l).2 j h);
+        low = λ k l. (first k l).0;
+        high = λ k l. (first k l).1;
+        distinct = λ j k h l e. (first k l).2 (j, h, e);
         zeros = λ k l. elim (cases_lt k 8) [
           | inl h ↦ (let e : n + (k - n) ≡ k = omega arith in
               ap (at list) (sym e) ∙ sym (get_or-drop n list (k - n) 0) ∙ zero_rest (k - n) 0 (omega arith) (omega (arith, length-drop n list, eight)))

@@ -11,6 +11,10 @@ pub record VariableCount (n : ℕ) : Type 0 where
 abbrev pub at : List ℕ → ℕ → ℕ
 at order k = slice_index order k
 
+-- the entry at position k is one of n variables, and stands nowhere before it
+abbrev pub IsNew : ℕ → List ℕ → ℕ → Type 0
+IsNew n list k = (1 ≤ at list k) × (at list k ≤ n) × (((j : ℕ) × (j < k) × (at list j ≡ at list k)) → ⊥)
+
 -- an ordering of n variables: eight numbers, of which the first n are 1 to n, each once, and the rest 0
 pub record IsOrdering (n : ℕ) (order : List ℕ) : Type 0 where
   pub eight : length order ≡ 8

@@ -11,7 +11,7 @@ use crate::refusals::*;
 use elements::{Element, exponent_of};
 use std::cmp::Ordering;
 
-// How the first of two elements stands to the second.
+// How the first of two elements stands to the second. It is no `Ordering`: it says so in the subject's words, and is told as 0, 1 or 2.
 #[derive(Clone, Copy, PartialEq, Eq, Debug)]
 pub enum Comparison {
     Below,

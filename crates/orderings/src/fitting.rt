@@ -11,15 +11,12 @@ pub const LARGEST: u16 = 4095;
 pub fn is_admitted<E: Element>(element: &E, n: u8) -> bool
     ensures { Decides result (Admitted E.Element.admitted n (E.Element.shown element.now)) }
 {
-    if !E::admits(element.family()) {
-        return false;
-    }
-    for (i, exponent) in element.exponents().iter().enumerate() {
-        if i >= n as usize && *exponent > 0 {
-            return false;
-        }
-    }
-    true
+    E::admits(element.family())
+        && element
+            .exponents()
+            .iter()
+            .skip(n as usize)
+            .all(|exponent| *exponent == 0)
 }
 
 // Whether an element may be a row of a sheet of n variables.

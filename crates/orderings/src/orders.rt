@@ -1,6 +1,6 @@
 // Whether a list of bytes is an ordering.
-ghost use Rattle.std.specs.Prelude.{◌≡◌, ℕ, ◌<◌, ◌≤◌, length, Decides};
-ghost use Rattle.orderings.specs.Order.{at, VariableCount, IsOrdering, EachVariableStandsOnce};
+ghost use Rattle.std.specs.Prelude.{◌≡◌, ℕ, ◌<◌, length, Decides};
+ghost use Rattle.orderings.specs.Order.{at, VariableCount, IsNew, IsOrdering, EachVariableStandsOnce};
 
 // The most variables that a sheet can have.
 pub const MOST_VARIABLES: u8 = 8;
@@ -20,6 +20,14 @@ fn repeats(list: &[u8], k: usize) -> bool
     list[..k].contains(&list[k])
 }
 
+// Whether the entry at position k is one of n variables, and stands nowhere before it.
+fn is_new(list: &[u8], k: usize, n: u8) -> bool
+    requires { k < length list.now }
+    ensures { Decides result (IsNew n list.now k) }
+{
+    (1..=n).contains(&list[k]) && !repeats(list, k)
+}
+
 // Whether the list is an ordering of n variables, which then lists each of them at one position.
 #[tactic(auto, using(crate::proofs::Positions::each_variable_stands_once))]
 pub fn is_ordering(list: &[u8], n: u8) -> bool
@@ -29,11 +37,6 @@ pub fn is_ordering(list: &[u8], n: u8) -> bool
     if list.len() != 8 || n > MOST_VARIABLES {
         return false;
     }
-    let (variables, rest) = list.split_at(n as usize);
-    for (k, variable) in variables.iter().enumerate() {
-        if !(1..=n).contains(variable) || repeats(variables, k) {
-            return false;
-        }
-    }
-    rest.iter().all(|byte| *byte == 0)
+    (0..n as usize).all(|k| is_new(list, k, n))
+        && list.iter().skip(n as usize).all(|byte| *byte == 0)
 }

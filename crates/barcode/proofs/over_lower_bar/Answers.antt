@@ -1,6 +1,8 @@
-use Rattle.std.proofs.lemmas.Bool.{false≢true}
-use Rattle.barcode.proofs.Found.{never_lower}
+use Rattle.std.proofs.Common.{rules, tests, refl}
+use Rattle.barcode.proofs.Found.{lower_told}
 use Rattle.barcode.proofs.over_lower_bar.Goals as goal
 
-pub returns-in-None : goal.returns-in-None
-returns-in-None g c = (λ t. absurd (false≢true t), λ b. absurd (never_lower c.args.order.now c.args.variable _ _ c.in-None.ensures b))
+pub returns-then-same_family : goal.returns-then-same_family
+returns-then-same_family g c =
+    lower_told c.args.order.now c.args.variable (g.E.Element.shown c.args.u.now) (g.E.Element.shown c.args.w.now) c.part_at.result c.is_some_and.result _ (c.if-same_family.ensures.0 refl)
+    c.part_at.ensures c.is_some_and.ensures (λ k p. search (rules, tests))
