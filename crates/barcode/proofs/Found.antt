@@ -1,18 +1,18 @@
 -- What the code finds of bars. Assumes nothing.
 use Rattle.std.proofs.Common.{◌≡◌, ℕ, zero, suc, ◌-◌, ◌<◌, ◌≤◌, Bool, true, false, not, eqb, List, length, map, take, get_or, Some, None, Option, MatchOption, Decides, sym, refl, ap, ◌∙◌, inl, inr, arith}
 use Rattle.std.specs.Bool.{MatchBool}
-use Rattle.std.specs.Option.{SomeIff, option_eq}
+use Rattle.std.specs.Option.{option_eq}
 use Rattle.std.specs.List.{AllWithin, HoldsAt}
-use Rattle.std.proofs.lemmas.List.{get_or_past, get_or-map, get_or-take, length-take}
+use Rattle.std.proofs.lemmas.List.{get_or_past, get_or-map, length-map, get_or-take, length-take}
 use Rattle.std.proofs.lemmas.Bool.{cases_lt, cases_eq, cases_order, false≢true, and_left, and_right, and_from, not_from_true, not_from_false}
 use Rattle.std.proofs.lemmas.Bool.Decides.{Decides-like, Decides-eqb}
 use Rattle.elements.specs.Element.{Shown, exponent, blank}
 use Rattle.orderings.specs.Order.{at, Agree, DifferAt}
 use Rattle.orderings.specs.Rows.{row}
-use Rattle.barcode.specs.Bars.{position, SameBar, LowerBar, same_bar, opens_bar}
+use Rattle.barcode.specs.Bars.{position, SameBar, LowerBar, Rises, Star, same_bar, opens_bar}
 use Rattle.barcode.specs.Gap.{height, rise}
 use Rattle.barcode.proofs.Listed.{position_holds}
-use Rattle.barcode.proofs.Tested.{same_bar_decides, none_elsewhere, rise_none, rise_some}
+use Rattle.barcode.proofs.Tested.{same_bar_decides, none_elsewhere, rise_some}
 
 -- the code's test of a number that may be absent
 pub is_some_decides : (o : Option ℕ) (k : ℕ) → Decides (option_eq eqb o (Some k)) (o ≡ Some k)
@@ -49,30 +49,38 @@ module _ (order : List ℕ) (v : ℕ) (u w : Shown) where
         ]
       ]
 
-  -- w rises nowhere but where the first difference stands at the position of v
-  pub none_apart : (part : Option ℕ) → MatchOption part (Agree order (length order) u w) (λ k. DifferAt order k u w) → (part ≡ Some (position order v) → ⊥) → None ≡ rise order v u w
-  none_apart None a ne = sym (rise_none order v u w (λ r. omega (arith, agree_all a (suc (position order v)) (position order v) (omega arith), r.smaller)))
-  none_apart (Some k) d ne = sym (rise_none order v u w (none_elsewhere order v u w k d (λ e. ne (ap Some e))))
+  -- an exponent that decides a rise is that of v
+  pub heights : Rises order v u w → (height order v u ≡ exponent u v) × (height order v w ≡ exponent w v)
+  heights r = elim (cases_lt (position order v) (length order)) [
+    | inl l ↦ (let e = position_holds order v l in (ap (exponent u) e, ap (exponent w) e))
+    | inr l ↦ (let none = get_or_past order (position order v) 0 l in let low = rw none at r.smaller in absurd (omega (arith, low)))
+  ]
 
-  -- there it rises by the difference, if that is not below 0
-  pub rise_at : (part got : Option ℕ) (low high : ℕ) → u.family ≡ w.family → MatchOption part (Agree order (length order) u w) (λ k. DifferAt order k u w) → part ≡ Some (position order v) → low ≡ exponent u v → high ≡ exponent w v →
-      SomeIff got (low ≤ high) (high - low) → got ≡ rise order v u w
-  rise_at part got low high f m at el eh is = told got is
+  -- w does not rise where it is not above in v
+  pub not_above : (low high : ℕ) → low ≡ exponent u v → high ≡ exponent w v → high ≤ low → Rises order v u w → ⊥
+  not_above low high el eh l r = let h = heights r in omega (arith, r.smaller, h.0, h.1)
+
+  -- where it is above, it rises exactly where the first difference stands at the position of v
+  pub rises_told : (part : Option ℕ) (r : Bool) (low high : ℕ) → u.family ≡ w.family → MatchOption part (Agree order (length order) u w) (λ k. DifferAt order k u w) →
+      low ≡ exponent u v → high ≡ exponent w v → low < high → Decides r (part ≡ Some (position order v)) → Decides r (Rises order v u w)
+  rises_told part r low high f m el eh l told = Decides-like r (there part m) (apart part m) told
     where
-      d : DifferAt order (position order v) u w
-      d = rw at at m
+      there : (part : Option ℕ) → MatchOption part (Agree order (length order) u w) (λ k. DifferAt order k u w) → part ≡ Some (position order v) → Rises order v u w
+      there part m at =
+          let d : DifferAt order (position order v) u w = rw at at m in
+          let e = position_holds order v d.inside in
+          record { family = f; above = d.above; smaller = rw e (omega (arith, el, eh)) }
 
-      before : low ≡ height order v u
-      before = el ∙ ap (exponent u) (sym (position_holds order v d.inside))
+      apart : (part : Option ℕ) → MatchOption part (Agree order (length order) u w) (λ k. DifferAt order k u w) → Rises order v u w → part ≡ Some (position order v)
+      apart None a r = absurd (omega (arith, agree_all a (suc (position order v)) (position order v) (omega arith), r.smaller))
+      apart (Some k) d r = elim (cases_eq k (position order v)) [
+        | inl e ↦ ap Some e
+        | inr ne ↦ absurd (none_elsewhere order v u w k d ne r)
+      ]
 
-      after : high ≡ height order v w
-      after = eh ∙ ap (exponent w) (sym (position_holds order v d.inside))
-
-      told : (got : Option ℕ) → SomeIff got (low ≤ high) (high - low) → got ≡ rise order v u w
-      told None under = sym (rise_none order v u w (λ r. under (omega (arith, before, after, r.smaller))))
-      told (Some x) (le, e) =
-          ap Some (omega (arith, e, before, after)) ∙
-          sym (rise_some order v u w (record { family = f; above = d.above; smaller = omega (arith, le, before, after, d.here) }))
+  -- how far it rises
+  pub rise_by : (low high : ℕ) → low ≡ exponent u v → high ≡ exponent w v → Rises order v u w → (low ≤ high) × (Some (high - low) ≡ rise order v u w)
+  rise_by low high el eh r = let h = heights r in (omega (arith, r.smaller, h.0, h.1), ap Some (omega (arith, h.0, h.1)) ∙ sym (rise_some order v u w r))
 
 -- a row over the same bar before place q
 module _ (rows : List Shown) (order : List ℕ) (v q : ℕ) where
@@ -106,3 +114,15 @@ module _ {X : Type 0} (shown : X → Shown) (xs : List X) (order : List ℕ) (v 
       sym (opens_not (map shown xs) order v q k q small (rw (before k small, e) (s u)))
   opens_told false none =
       sym (opens_all (map shown xs) order v q q (λ j h. rw (before j h, e) (none j u (omega arith) (omega (arith, length-take q xs)))))
+
+-- what the code finds among the rows as code holds them: none rises exactly where there is a star
+pub star_told : {X : Type 0} (shown : X → Shown) (xs : List X) (order : List ℕ) (v : ℕ) (u : X) (r : Bool) →
+    MatchBool r ((k : ℕ) × (k < length xs) × HoldsAt (λ x. Rises order v (shown u) (shown x)) xs k) (AllWithin (λ x. Rises order v (shown u) (shown x) → ⊥) xs 0 (length xs)) →
+    Decides (not r) (Star (map shown xs) order (shown u) v)
+star_told shown xs order v u true (k, l, h) =
+    (λ t. absurd (false≢true t), λ star. absurd (star k (omega (arith, l, length-map xs shown)) (rw (get_or-map shown xs k u blank l) (h u))))
+star_told shown xs order v u false none = (
+  λ _ q l r. (let small : q < length xs = omega (arith, l, length-map xs shown) in
+      none q u (omega arith) (omega (arith, small)) (rw (get_or-map shown xs q u blank small) at r)),
+  λ _. refl,
+)

@@ -1,10 +1,11 @@
 -- The gap as a function is the gap in words. Assumes nothing.
-use Rattle.std.proofs.Common.{◌≡◌, ℕ, ◌+◌, ◌-◌, ◌<◌, Bool, true, false, cond, ltb, List, map, length, Some, None, Option, sym, refl, ap, ◌∙◌, subst, arith}
+use Rattle.std.proofs.Common.{◌≡◌, ℕ, ◌+◌, ◌-◌, ◌<◌, Bool, true, false, cond, ltb, List, map, length, Some, None, Option, Decides, sym, refl, ap, ◌∙◌, subst, arith}
 use Rattle.std.proofs.lemmas.List.{length-map}
 use Rattle.std.proofs.lemmas.Bool.{lt-ltb, cond-true}
+use Rattle.std.proofs.lemmas.Bool.Decides.{Decides-like}
 use Rattle.elements.specs.Element.{Shown, blank}
 use Rattle.orderings.specs.Rows.{row}
-use Rattle.barcode.specs.Bars.{Rises}
+use Rattle.barcode.specs.Bars.{Rises, Star}
 use Rattle.barcode.specs.Gap.{height, IsGap, rises, rise, least, gap}
 use Rattle.barcode.proofs.Least.{least_under, least_found}
 use Rattle.barcode.proofs.Tested.{rises_decides, rise_some}
@@ -42,6 +43,15 @@ pub gap_is : (rows : List Shown) (order : List ℕ) (p v : ℕ) → p < length r
 gap_is rows order p v l =
     is_gap rows order (row rows p) v (gap rows order p v)
     (sym (cond-true (ltb p (length rows)) (least (map (rise order v (row rows p)) rows)) None (lt-ltb p (length rows) l)))
+
+-- there is no gap exactly at a star
+pub star_has_no_gap : (rows : List Shown) (order : List ℕ) (p v : ℕ) (r : Bool) → p < length rows → Decides r (Star rows order (row rows p) v) → Decides r (gap rows order p v ≡ None)
+star_has_no_gap rows order p v r l d =
+    Decides-like r (none (gap rows order p v) (gap_is rows order p v l)) (λ e. subst (IsGap rows order (row rows p) v) e (gap_is rows order p v l)) d
+  where
+    none : (o : Option ℕ) → IsGap rows order (row rows p) v o → Star rows order (row rows p) v → o ≡ None
+    none None g star = refl
+    none (Some m) ((q, h, rises, e), least) star = absurd (star q h rises)
 
 -- the gap of the rows as code holds them
 module _ {X : Type 0} (shown : X → Shown) (order : List ℕ) (v : ℕ) where

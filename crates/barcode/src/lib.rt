@@ -1,10 +1,10 @@
 // Bars, stars and gaps of the rows of a sheet, of any kind, under an ordering.
 #![tactic(auto)]
 
-ghost use Rattle.std.specs.Prelude.{◌≡◌, ℕ, ◌<◌, ◌≤◌, true, ◌&&◌, map, length, Decides};
+ghost use Rattle.std.specs.Prelude.{◌≡◌, ℕ, ◌<◌, ◌≤◌, true, ◌&&◌, map, length, None, Decides};
 ghost use Rattle.orderings.specs.Order.{at, IsOrdering};
 ghost use Rattle.orderings.specs.Rows.{row as at_place};
-ghost use Rattle.barcode.specs.Bars.{position as position_in, SameBar, LowerBar, Star, bar_number, lower_bar, opens_bar, BarNumberCountsTheDifferentLowerBars};
+ghost use Rattle.barcode.specs.Bars.{position as position_in, SameBar, LowerBar, Rises, Star, bar_number, lower_bar, opens_bar, BarNumberCountsTheDifferentLowerBars};
 ghost use Rattle.barcode.specs.Gap.{rise as rise_of, lesser, gap as gap_of, IsGap};
 
 use elements::{Element, exponent_of};
@@ -29,19 +29,27 @@ fn same_family<E: Element>(u: &E, w: &E) -> bool
     u.family() == w.family()
 }
 
+// Whether w is above u in a variable and agrees with it in every greater one.
+fn rises<E: Element>(u: &E, w: &E, order: &[u8], variable: u8) -> bool
+    ensures { Decides result (Rises order.now variable (E.Element.shown u.now) (E.Element.shown w.now)) }
+{
+    let low = exponent_of(&u.exponents(), variable);
+    let high = exponent_of(&w.exponents(), variable);
+    // what most rows fail at comes first
+    if high <= low {
+        return false;
+    }
+    same_family(u, w) && part_at(u, w, order) == Some(position(order, variable))
+}
+
 // How far w rises above u at a variable, where it counts for the gap there.
 fn rise<E: Element>(u: &E, w: &E, order: &[u8], variable: u8) -> Option<u16>
     ensures { result ≡ rise_of order.now variable (E.Element.shown u.now) (E.Element.shown w.now) }
 {
-    let here = position(order, variable);
-    if same_family(u, w) && part_at(u, w, order) == Some(here) {
-        let low = exponent_of(&u.exponents(), variable);
-        let high = exponent_of(&w.exponents(), variable);
-        // They differ, so no rise is 0.
-        high.checked_sub(low)
-    } else {
-        None
+    if !rises(u, w, order, variable) {
+        return None;
     }
+    Some(exponent_of(&w.exponents(), variable) - exponent_of(&u.exponents(), variable))
 }
 
 // Whether u and w lie over the same bar of a variable.
@@ -64,7 +72,8 @@ fn over_lower_bar<E: Element>(u: &E, w: &E, order: &[u8], variable: u8) -> bool
         })
 }
 
-// Rows of any kind under an ordering of their variables.
+// Rows of any kind under an ordering of their variables. That they are rows of a sheet, and the list an ordering, is no part of the type:
+// what tells of bars tells it of any rows and any list, and asks nothing of whoever hands them in.
 #[derive(Clone, Copy, PartialEq, Eq, Debug)]
 pub struct Ranked<'a, E> {
     pub rows: &'a [E],
@@ -89,8 +98,13 @@ impl<E: Element> Ranked<'_, E> {
     pub fn has_star(&self, place: usize, variable: u8) -> bool
         ensures row { place < length self.now.rows.now → Decides result (Star (map E.Element.shown self.now.rows.now) self.now.order.now (at_place (map E.Element.shown self.now.rows.now) place) variable) }
         ensures no_row { length self.now.rows.now ≤ place → result ≡ true }
+        ensures no_gap { Decides result (gap_of (map E.Element.shown self.now.rows.now) self.now.order.now place variable ≡ None) }
     {
-        self.gap(place, variable).is_none()
+        let Some(u) = self.rows.get(place) else {
+            return true;
+        };
+        let order = self.order;
+        !self.rows.iter().any(|w| rises(u, w, order, variable))
     }
 
     // Whether no row before a place lies over the same bar of a variable.

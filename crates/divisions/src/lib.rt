@@ -35,7 +35,11 @@ impl Division for Janet {
     ghost lawful = { λ d. janet_lawful };
 
     fn limit<E: Element>(&self, ranked: &Ranked<E>, place: usize, variable: u8) -> Option<u16> {
-        ranked.gap(place, variable).map(|_| 1)
+        if ranked.has_star(place, variable) {
+            None
+        } else {
+            Some(1)
+        }
     }
 }
 

@@ -1,0 +1,28 @@
+use Rattle.std.proofs.Common.{rules, tests, map, ◌<◌, length, Decides, not, sym, arith}
+use Rattle.std.proofs.lemmas.Bool.{ltb-true}
+use Rattle.std.proofs.lemmas.List.{length-map}
+use Rattle.std.proofs.lemmas.Iterator.{cases_from_any, YieldsList-from_slice}
+use Rattle.orderings.specs.Rows.{row}
+use Rattle.orderings.proofs.Places.{row_read}
+use Rattle.barcode.specs.Bars.{Rises, Star}
+use Rattle.barcode.proofs.Found.{star_told}
+use Rattle.barcode.proofs.Gaps.{star_has_no_gap}
+use Rattle.barcode.proofs.Ranked.has_star.Goals as goal
+
+pub returns : goal.returns
+returns g c =
+    let shown = g.E.Element.shown in
+    let rows = c.args.self.now.rows.now in
+    let order = c.args.self.now.order.now in
+    let u = c.in-Some.u.now in
+    let l : c.args.place < length rows = ltb-true _ _ (sym c.in-Some.ensures.lookup.0) in
+    let star : Decides (not c.any.result) (Star (map shown rows) order (row (map shown rows) c.args.place) c.args.variable) =
+    rw (row_read shown rows c.args.place u l c.in-Some.ensures.lookup.1)
+    (star_told shown rows order c.args.variable u c.any.result
+    (cases_from_any c.any.new.self _ _ (λ x. Rises order c.args.variable (shown u) (shown x)) (λ x. Rises order c.args.variable (shown u) (shown x) → ⊥) c.any.ensures.ran
+    (YieldsList-from_slice rows cc) (λ x q k. search (rules, tests)) (λ x q k. search (rules, tests)))) in
+    record {
+      row = λ _. star;
+      no_row = λ past. absurd (omega (arith, past, l));
+      no_gap = star_has_no_gap (map shown rows) order c.args.place c.args.variable (not c.any.result) (omega (arith, l, length-map rows shown)) star;
+    }
