@@ -3,7 +3,7 @@ use Rattle.std.proofs.Common.{◌≡◌, ℕ, ◌<◌, ◌≤◌, List, length, 
 use Rattle.elements.specs.Element.{Shown}
 use Rattle.divisions.specs.Laws.{Meaning, OnSheet, Lawful}
 use Rattle.cones.specs.declared.shortfalls.Short.{Short}
-use Rattle.cones.specs.Cones.{Limits, InCone, Complete, Shortfall, FirstShortfall, Small}
+use Rattle.cones.specs.Cones.{Limits, InCone, Complete, Shortfall, FirstShortfall}
 use Rattle.cones.proofs.Completeness.{complete_exactly_without_shortfall}
 
 -- the limits agree
@@ -41,16 +41,10 @@ module _ (n : ℕ) (rows : List Shown) (lim other : Limits) (same : Same n rows 
 
 -- what the first shortfall by a table says of the division that the table holds
 pub judged_by : (m : Meaning) → Lawful m → (n : ℕ) (rows : List Shown) (order : List ℕ) → OnSheet n rows order → (table : Limits) → Same n rows table (m rows order) →
-    (r : Option Short) → (Small n rows table → MatchOption r ((p v d : ℕ) → Shortfall n rows table p v d → ⊥) (λ s. FirstShortfall n rows table s.place s.variable s.power)) →
+    (r : Option Short) → MatchOption r ((p v d : ℕ) → Shortfall n rows table p v d → ⊥) (λ s. FirstShortfall n rows table s.place s.variable s.power) →
     MatchOption r (Complete n rows (m rows order)) (λ s. FirstShortfall n rows (m rows order) s.place s.variable s.power × (Complete n rows (m rows order) → ⊥))
-judged_by m law n rows order on table same r found = told r (found small)
+judged_by m law n rows order on table same r found = told r found
   where
-    small : Small n rows table
-    small = record {
-      exponents = λ p v l. (on.fit.fit p l).small v;
-      limits = λ p v d l low high e. (law.range n rows order on p v d l low high (sym (same p v l low high) ∙ e)).1;
-    }
-
     exactly : (((p v d : ℕ) → Shortfall n rows (m rows order) p v d → ⊥) → Complete n rows (m rows order)) × (Complete n rows (m rows order) → (p v d : ℕ) → Shortfall n rows (m rows order) p v d → ⊥)
     exactly = complete_exactly_without_shortfall on.kind n order rows (m rows order) on.ordered on.fit (law.separation n rows order on)
 

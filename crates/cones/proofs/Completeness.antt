@@ -5,7 +5,7 @@ use Rattle.elements.specs.Element.{Shown, exponent, Divides, times, Variable}
 use Rattle.orderings.specs.Order.{IsOrdering}
 use Rattle.orderings.specs.Rows.{row, Rows}
 use Rattle.orderings.proofs.Positions.{few, position}
-use Rattle.cones.specs.Cones.{Limits, Separated, Ranged, InCone, Complete, Small, Greatest, CompleteExactlyWithoutShortfall, JanetLikeCompletesWhatAnyCompletes}
+use Rattle.cones.specs.Cones.{Limits, Separated, InCone, Complete, Greatest, CompleteExactlyWithoutShortfall, JanetLikeCompletesWhatAnyCompletes}
 use Rattle.cones.proofs.Products.{quotient_at, raised, into_times, from_times, divides_on}
 use Rattle.cones.proofs.Divisors.{under, ranked, greatest, cone_greatest}
 
@@ -79,10 +79,3 @@ janet_like_completes_what_any_completes admits n order rows lim jan o ok sep jan
     let (r, cone) = complete (times (row rows g) v m) g top.place (divides_times admits n order rows o ok g v m top.place low high) in
     let here : lim g v ≡ Some b = rw is at limit in
     omega (arith, rise, small, step admits n order rows o ok lim sep r g v m b w top low high l cone here))
-
--- rows of a sheet, with limits in range, are small
-pub small_from : (admits : ℕ → Bool) (n : ℕ) (rows : List Shown) (lim : Limits) → Rows admits n rows → Ranged n rows lim → Small n rows lim
-small_from admits n rows lim ok ranged = record {
-  exponents = λ p v h. (ok.fit p h).small v;
-  limits = λ p v m h low high e. (ranged p v m h low high e).1;
-}

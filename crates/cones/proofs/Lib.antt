@@ -4,4 +4,5 @@ pub mod Completeness
 pub mod Reading
 pub mod Alike
 pub mod Obtained
+pub mod Places
 pub mod Wider

@@ -6,10 +6,11 @@ use Rattle.std.specs.Option.{option_map_or}
 use Rattle.std.proofs.lemmas.List.{get_or_past, get_or_default, get_or-map, length-map}
 use Rattle.std.proofs.lemmas.Bool.{cases_lt, ltb-true, lt-ltb}
 use Rattle.std.proofs.lemmas.Bool.Decides.{not_from_Decides, Decides-and, Decides-like}
-use Rattle.elements.specs.Element.{Shown, exponent, Divides, times, quotient, Variable, blank}
+use Rattle.elements.specs.Element.{Shown, Divides, times, quotient, Variable, blank}
 use Rattle.orderings.specs.Rows.{row}
-use Rattle.cones.specs.Cones.{Within, Holds, InCone, Shortfall, Small}
+use Rattle.cones.specs.Cones.{Within, Holds, InCone, Shortfall}
 use Rattle.cones.specs.Tables.{limit_in, limits_at, limits_of}
+use Rattle.cones.proofs.Products.{quotient_at}
 
 -- a variable past the end has no limit
 pub limit_past : (xs : List (Option ℕ)) (v : ℕ) → length xs < v → limit_in xs v ≡ None
@@ -23,40 +24,52 @@ limit_high xs v m e = elim (cases_lt (length xs) v) [
   | inr l ↦ l
 ]
 
--- whether an exponent is below a limit, or there is none
-below_limit : (d : ℕ) (o : Option ℕ) → Decides (option_map_or (ltb d) o true) ((m : ℕ) → o ≡ Some m → d < m)
-below_limit d None = (λ _ m e. absurd (let z : ◌≡◌ {A = ℕ} 0 1 = cc in omega arith), λ _. refl)
-below_limit d (Some x) = (λ t m e. let same : x ≡ m = cc in omega (arith, ltb-true d x t), λ h. lt-ltb d x (h x refl))
+-- whether an exponent is below the sum of another and a limit, or there is no limit
+below_limit : (least given : ℕ) (o : Option ℕ) → Decides (option_map_or (λ m. ltb given (least + m)) o true) ((m : ℕ) → o ≡ Some m → given < least + m)
+below_limit least given None = (λ _ m e. absurd (let z : ◌≡◌ {A = ℕ} 0 1 = cc in omega arith), λ _. refl)
+below_limit least given (Some x) = (λ t m e. let same : x ≡ m = cc in omega (arith, ltb-true given (least + x) t), λ h. lt-ltb given (least + x) (h x refl))
 
--- the first n exponents, each beside its limit
-pairs_below : (n : ℕ) (t : List ℕ) (xs : List (Option ℕ)) → length t ≡ length xs →
-    Decides (list_all (λ p. option_map_or (ltb p.0) p.1 true) (take n (zip t xs))) ((k m : ℕ) → k < n → get_or xs k None ≡ Some m → get_or t k 0 < m)
-pairs_below zero t xs same = (λ _ k m l e. absurd (omega arith), λ _. refl)
-pairs_below (suc n) [] [] same = (λ _ k m l e. absurd (let z : ◌≡◌ {A = ℕ} 0 1 = cc in omega arith), λ _. refl)
-pairs_below (suc n) [] (x ∷ xs) same = absurd (omega arith)
-pairs_below (suc n) (d ∷ ds) [] same = absurd (omega arith)
-pairs_below (suc n) (d ∷ ds) (x ∷ xs) same =
-    Decides-like (option_map_or (ltb d) x true && list_all (λ p. option_map_or (ltb p.0) p.1 true) (take n (zip ds xs))) each
+-- the test of two exponents and a limit
+abbrev pub fits : (ℕ × ℕ) × Option ℕ → Bool
+fits p = option_map_or (λ m. ltb p.0.1 (p.0.0 + m)) p.1 true
+
+-- the first n places of two lists of exponents, each beside its limit
+places_fit : (n : ℕ) (a b : List ℕ) (xs : List (Option ℕ)) → length a ≡ length xs → length b ≡ length xs →
+    Decides (list_all fits (take n (zip (zip a b) xs))) ((k m : ℕ) → k < n → get_or xs k None ≡ Some m → get_or b k 0 < get_or a k 0 + m)
+places_fit zero a b xs first second = (λ _ k m l e. absurd (omega arith), λ _. refl)
+places_fit (suc n) [] b [] first second = (λ _ k m l e. absurd (let z : ◌≡◌ {A = ℕ} 0 1 = cc in omega arith), λ _. refl)
+places_fit (suc n) [] b (x ∷ xs) first second = absurd (omega arith)
+places_fit (suc n) (c ∷ cs) b [] first second = absurd (omega arith)
+places_fit (suc n) (c ∷ cs) [] (x ∷ xs) first second = absurd (omega arith)
+places_fit (suc n) (c ∷ cs) (d ∷ ds) (x ∷ xs) first second =
+    Decides-like (fits ((c, d), x) && list_all fits (take n (zip (zip cs ds) xs))) each
     (λ h. (λ m e. h 0 m (omega arith) e, λ k m l e. h (suc k) m (omega arith) e))
-    (Decides-and _ _ (below_limit d x) (pairs_below n ds xs (omega arith)))
+    (Decides-and _ _ (below_limit c d x) (places_fit n cs ds xs (omega arith) (omega arith)))
   where
-    each : ((m : ℕ) → x ≡ Some m → d < m) × ((k m : ℕ) → k < n → get_or xs k None ≡ Some m → get_or ds k 0 < m) →
-        (k m : ℕ) → k < suc n → get_or (x ∷ xs) k None ≡ Some m → get_or (d ∷ ds) k 0 < m
+    each : ((m : ℕ) → x ≡ Some m → d < c + m) × ((k m : ℕ) → k < n → get_or xs k None ≡ Some m → get_or ds k 0 < get_or cs k 0 + m) →
+        (k m : ℕ) → k < suc n → get_or (x ∷ xs) k None ≡ Some m → get_or (d ∷ ds) k 0 < get_or (c ∷ cs) k 0 + m
     each h zero m l e = h.0 m e
     each h (suc k) m l e = h.1 k m (omega arith) e
 
--- the quotient of a row that divides the element is a multiplier exactly where the first n exponents are below their limits
-pub held : (n : ℕ) (xs : List (Option ℕ)) (u w : Shown) (t : List ℕ) (r : Bool) → length xs ≡ 8 → length t ≡ 8 → Divides u w → t ≡ quotient u w →
-    r ≡ list_all (λ p. option_map_or (ltb p.0) p.1 true) (take n (zip t xs)) → Decides r (Holds n (limit_in xs) u w)
-held n xs u w t r eight long d is told =
-    let decided = pairs_below n t xs (long ∙ sym eight) in (
-      λ e. (d, rw (← is) (within (decided.0 (sym told ∙ e)))),
-      λ h. told ∙ decided.1 (λ k m l e. rw (← is) at (h.1 (suc k) m (omega arith) (omega arith) e)),
-    )
-  where
-    within : ((k m : ℕ) → k < n → get_or xs k None ≡ Some m → get_or t k 0 < m) → Within n (limit_in xs) t
-    within h zero m low high e = absurd (omega arith)
-    within h (suc k) m low high e = h k m (omega arith) e
+-- the quotient of a row u that divides w is a multiplier exactly where the first n places fit
+module _ (n : ℕ) (xs : List (Option ℕ)) (u w : Shown) (a : List ℕ) (is : a ≡ u.exponents) (long : length a ≡ 8) (eight : length xs ≡ 8) (wide : length w.exponents ≡ 8) where
+  within : Divides u w → ((k m : ℕ) → k < n → get_or xs k None ≡ Some m → get_or w.exponents k 0 < get_or a k 0 + m) → Within n (limit_in xs) (quotient u w)
+  within d h zero m low high e = absurd (omega arith)
+  within d h (suc k) m low high e =
+      let r : Variable (suc k) = record { low = low; high = omega (arith, limit_high xs (suc k) m e) } in
+      omega (arith, quotient_at u w (suc k) r, d.smaller (suc k), rw is at (h k m (omega arith) e))
+
+  fitting : Divides u w → Within n (limit_in xs) (quotient u w) → (k m : ℕ) → k < n → get_or xs k None ≡ Some m → get_or w.exponents k 0 < get_or a k 0 + m
+  fitting d h k m l e =
+      let r : Variable (suc k) = record { low = omega arith; high = omega (arith, limit_high xs (suc k) m e) } in
+      rw is (omega (arith, quotient_at u w (suc k) r, d.smaller (suc k), h (suc k) m (omega arith) (omega arith) e))
+
+  pub held : (r : Bool) → Divides u w → r ≡ list_all fits (take n (zip (zip a w.exponents) xs)) → Decides r (Holds n (limit_in xs) u w)
+  held r d told =
+      let decided = places_fit n a w.exponents xs (long ∙ sym eight) (wide ∙ sym eight) in (
+        λ e. (d, within d (decided.0 (sym told ∙ e))),
+        λ h. told ∙ decided.1 (fitting d h.1),
+      )
 
 -- what the code reads at a place: an element and its limits
 module _ {E : Type 0} (shown : E → Shown) (n : ℕ) (rows : List E) (table : List (List (Option ℕ))) (p : ℕ) (x : E) (xs : List (Option ℕ))
@@ -76,20 +89,14 @@ module _ {E : Type 0} (shown : E → Shown) (n : ℕ) (rows : List E) (table : L
   in_cone_to w cone =
       let here : Holds n (limits_of table p) (row (map shown rows) p) w = (cone.divides, cone.multiplier) in rw (row_read, ← limits) at here
 
-  -- variable v has limit m, and r tells whether the product with that power lies in no cone, if it is small
-  module _ (eight : length xs ≡ 8) (small : Small n (map shown rows) (limits_of table)) (v m : ℕ) (o : Option ℕ) (r : Bool) (low : 1 ≤ v) (high : v ≤ n) (read : o ≡ limit_in xs v) (found : o ≡ Some m)
-      (told : Variable v → ((y : ℕ) → exponent (shown x) y ≤ 4095) → m ≤ 4096 → Decides r ((s : ℕ) → InCone n (map shown rows) (limits_of table) s (times (shown x) v m) → ⊥)) where
-    limit : limit_in xs v ≡ Some m
-    limit = sym read ∙ found
-
+  -- variable v has limit m, and r tells whether the product with that power lies in no cone
+  module _ (v m : ℕ) (o : Option ℕ) (r : Bool) (low : 1 ≤ v) (high : v ≤ n) (read : o ≡ limit_in xs v) (found : o ≡ Some m)
+      (told : Decides r ((s : ℕ) → InCone n (map shown rows) (limits_of table) s (times (shown x) v m) → ⊥)) where
     limited : limits_of table p v ≡ Some m
-    limited = rw limits at limit
+    limited = rw limits at (sym read ∙ found)
 
     decided : Decides r ((s : ℕ) → InCone n (map shown rows) (limits_of table) s (times (row (map shown rows) p) v m) → ⊥)
-    decided =
-        rw row_read
-        (told (record { low = low; high = omega (arith, limit_high xs v m limit) })
-        (λ y. rw row_read at (small.exponents p y place)) (small.limits p v m place low high limited))
+    decided = rw row_read told
 
     pub shortfall_from : r ≡ true → Shortfall n (map shown rows) (limits_of table) p v m
     shortfall_from e = record { place = place; low = low; high = high; limit = limited; outside = decided.0 e }
@@ -100,32 +107,41 @@ module _ {E : Type 0} (shown : E → Shown) (n : ℕ) (rows : List E) (table : L
         not_from_Decides r decided e (rw same at short.outside)
 
 -- what the code finds among the rows, each with its place: the first whose cone holds an element
-module _ {E : Type 0} (shown : E → Shown) (n : ℕ) (rows : List E) (table : List (List (Option ℕ))) (e : E) (w : Shown) where
+module _ {E : Type 0} (shown : E → Shown) (n : ℕ) (table : List (List (Option ℕ))) (w : Shown) where
   abbrev pub Holding : ℕ × E → Type 0
   Holding p = Holds n (limit_in (limits_at table p.0)) (shown p.1) w
 
-  read : (k : ℕ) → k < length rows → get_or rows k e ≡ get_or rows k (get_or rows k e)
-  read k l = get_or_default rows k e (get_or rows k e) l
+  module _ (rows : List E) (e : E) where
+    read : (k : ℕ) → k < length rows → get_or rows k e ≡ get_or rows k (get_or rows k e)
+    read k l = get_or_default rows k e (get_or rows k e) l
 
-  listed : (k : ℕ) → k < length rows → get_or (enumerate_from 0 rows) k (0, e) ≡ (k, get_or rows k e)
-  listed k l = let same : 0 + k ≡ k = omega arith in rw same at (get_or-enumerate_from 0 rows k (0, e) l)
+    listed : (k : ℕ) → k < length rows → get_or (enumerate_from 0 rows) k (0, e) ≡ (k, get_or rows k e)
+    listed k l = let same : 0 + k ≡ k = omega arith in rw same at (get_or-enumerate_from 0 rows k (0, e) l)
 
-  outside : (i : ℕ) → i ≤ length rows → AllWithin (λ p. Holding p → ⊥) (enumerate_from 0 rows) 0 i → (s : ℕ) → s < i → InCone n (map shown rows) (limits_of table) s w → ⊥
-  outside i small none s l cone =
-      let here = rw (listed s (omega arith)) at (none s (0, e) (omega arith) l) in
-      here (in_cone_to shown n rows table s (get_or rows s e) (limits_at table s) (omega arith) (read s (omega arith)) refl w cone)
+    outside : (i : ℕ) → i ≤ length rows → AllWithin (λ p. Holding p → ⊥) (enumerate_from 0 rows) 0 i → (s : ℕ) → s < i → InCone n (map shown rows) (limits_of table) s w → ⊥
+    outside i small none s l cone =
+        let here = rw (listed s (omega arith)) at (none s (0, e) (omega arith) l) in
+        here (in_cone_to shown n rows table s (get_or rows s e) (limits_at table s) (omega arith) (read s (omega arith)) refl w cone)
 
-  pub cone_found : (r : Option ℕ) → MatchOption r (AllWithin (λ p. Holding p → ⊥) (enumerate_from 0 rows) 0 (length (enumerate_from 0 rows)))
+    found_by : (r : Option ℕ) → MatchOption r (AllWithin (λ p. Holding p → ⊥) (enumerate_from 0 rows) 0 (length (enumerate_from 0 rows)))
+        (λ i. (i < length (enumerate_from 0 rows)) × HoldsAt Holding (enumerate_from 0 rows) i × AllWithin (λ p. Holding p → ⊥) (enumerate_from 0 rows) 0 i) →
+        MatchOption r ((s : ℕ) → InCone n (map shown rows) (limits_of table) s w → ⊥)
+        (λ s. InCone n (map shown rows) (limits_of table) s w × ((q : ℕ) → q < s → InCone n (map shown rows) (limits_of table) q w → ⊥))
+    found_by None none =
+        λ s cone. outside (length rows) (omega arith) (rw (length-enumerate_from 0 rows) at none) s (omega (arith, cone.place, length-map rows shown)) cone
+    found_by (Some i) (l, h, before) =
+        let small : i < length rows = omega (arith, length-enumerate_from 0 rows) in (
+          in_cone_from shown n rows table i (get_or rows i e) (limits_at table i) small (read i small) refl w (rw (listed i small) at (h (0, e))),
+          outside i (omega arith) before,
+        )
+
+  pub cone_found : (rows : List E) (r : Option ℕ) → MatchOption r (AllWithin (λ p. Holding p → ⊥) (enumerate_from 0 rows) 0 (length (enumerate_from 0 rows)))
       (λ i. (i < length (enumerate_from 0 rows)) × HoldsAt Holding (enumerate_from 0 rows) i × AllWithin (λ p. Holding p → ⊥) (enumerate_from 0 rows) 0 i) →
       MatchOption r ((s : ℕ) → InCone n (map shown rows) (limits_of table) s w → ⊥)
       (λ s. InCone n (map shown rows) (limits_of table) s w × ((q : ℕ) → q < s → InCone n (map shown rows) (limits_of table) q w → ⊥))
-  cone_found None none =
-      λ s cone. outside (length rows) (omega arith) (rw (length-enumerate_from 0 rows) at none) s (omega (arith, cone.place, length-map rows shown)) cone
-  cone_found (Some i) (l, h, before) =
-      let small : i < length rows = omega (arith, length-enumerate_from 0 rows) in (
-        in_cone_from shown n rows table i (get_or rows i e) (limits_at table i) small (read i small) refl w (rw (listed i small) at (h (0, e))),
-        outside i (omega arith) before,
-      )
+  cone_found [] None none = λ s cone. absurd (omega (arith, cone.place))
+  cone_found [] (Some i) (l, h, before) = absurd (omega arith)
+  cone_found (e ∷ es) r told = found_by (e ∷ es) e r told
 
 -- a variable without a limit has no shortfall
 pub unlimited : (n : ℕ) (rows : List Shown) (table : List (List (Option ℕ))) (p v : ℕ) (xs : List (Option ℕ)) (o : Option ℕ) →

@@ -14,11 +14,6 @@ Separated order rows lim =
     (p q k : ℕ) → p < length rows → q < length rows → PartAt order k (row rows p) (row rows q) →
     (m : ℕ) × (lim p (at order k) ≡ Some m) × (exponent (row rows p) (at order k) + m ≤ exponent (row rows q) (at order k))
 
--- every limit of a row in one of the n variables is from 1 to 4,096
-abbrev pub Ranged : ℕ → List Shown → Limits → Type 0
-Ranged n rows lim =
-    (p v m : ℕ) → p < length rows → 1 ≤ v → v ≤ n → lim p v ≡ Some m → (1 ≤ m) × (m ≤ 4096)
-
 -- in each of the n variables that has a limit, the term's exponent is below it
 abbrev pub Within : ℕ → (ℕ → Option ℕ) → List ℕ → Type 0
 Within n limit t = (v m : ℕ) → 1 ≤ v → v ≤ n → limit v ≡ Some m → entry t v < m
@@ -54,11 +49,6 @@ pub record FirstShortfall (n : ℕ) (rows : List Shown) (lim : Limits) (p v m : 
   pub shortfall : Shortfall n rows lim p v m
   pub none_lower : (q x l : ℕ) → q < p → Shortfall n rows lim q x l → ⊥
   pub none_before : (x l : ℕ) → x < v → Shortfall n rows lim p x l → ⊥
-
--- exponents to 4,095 and limits to 4,096: each product of a row with a limited power can be shown
-pub record Small (n : ℕ) (rows : List Shown) (lim : Limits) : Type 0 where
-  pub exponents : (p v : ℕ) → p < length rows → exponent (row rows p) v ≤ 4095
-  pub limits : (p v m : ℕ) → p < length rows → 1 ≤ v → v ≤ n → lim p v ≡ Some m → m ≤ 4096
 
 -- the row at place s is the greatest of the rows that divide w
 pub record Greatest (order : List ℕ) (rows : List Shown) (s : ℕ) (w : Shown) : Type 0 where

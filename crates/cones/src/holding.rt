@@ -3,8 +3,9 @@ ghost use Rattle.std.specs.Prelude.{ℕ, ◌<◌, map, Decides, MatchOption};
 ghost use Rattle.cones.specs.Cones.{Holds, InCone, ConesAreDisjoint, TheConeIsOfTheGreatestDivisor};
 ghost use Rattle.cones.specs.Tables.{limit_in, limits_of};
 
+use crate::shapes::*;
 use crate::tables::*;
-use elements::{Element, quotient};
+use elements::Element;
 
 // Rows in n variables, with the limits of each. These are two lists, and not one of pairs: a rule of the project,
 // as the rows stay in the caller's table, and the limits lie in fixed memory.
@@ -15,20 +16,54 @@ pub struct Limited<'a, E> {
     pub n: u8,
 }
 
+// Whether a shape lies in the cone of a row with these limits of variables 1 to n: the row divides it, and in each
+// variable that has a limit it has less than that more than the row.
+fn holds<E: Element>(row: &E, limits: &Limits, n: u8, shape: &Shape) -> bool
+    ensures { Decides result (Holds n (limit_in limits.now) (E.Element.shown row.now) (record { family = shape.now.family; exponents = shape.now.exponents })) }
+{
+    shape.is_multiple_of(row)
+        && row
+            .exponents()
+            .iter()
+            .zip(shape.exponents.iter())
+            .zip(limits.iter())
+            .take(n as usize)
+            .all(|((least, given), limit)| {
+                limit.is_none_or(|most| *given < u32::from(*least) + u32::from(most))
+            })
+}
+
 // Whether the element lies in the cone of a row with these limits of variables 1 to n: the quotient is below each of them.
 pub fn in_cone<E: Element>(row: &E, limits: &Limits, n: u8, element: &E) -> bool
     ensures { Decides result (Holds n (limit_in limits.now) (E.Element.shown row.now) (E.Element.shown element.now)) }
 {
-    let Some(term) = quotient(row, element) else {
-        return false;
-    };
-    term.iter()
-        .zip(limits.iter())
-        .take(n as usize)
-        .all(|(degree, limit)| limit.is_none_or(|most| *degree < most))
+    holds(row, limits, n, &Shape::of(element))
 }
 
 impl<E: Element> Limited<'_, E> {
+    // Whether the cone of a place holds a shape.
+    pub(crate) fn holds_at(&self, place: usize, shape: &Shape) -> bool
+        ensures { Decides result (InCone self.now.n (map E.Element.shown self.now.rows.now) (limits_of self.now.limits.now) place (record { family = shape.now.family; exponents = shape.now.exponents })) }
+    {
+        let Some(row) = self.rows.get(place) else {
+            return false;
+        };
+        holds(row, lent_limits(self.limits, place), self.n, shape)
+    }
+
+    // The first place whose cone holds a shape.
+    pub(crate) fn place_of(&self, shape: &Shape) -> Option<usize>
+        ensures { MatchOption result ((s : ℕ) → InCone self.now.n (map E.Element.shown self.now.rows.now) (limits_of self.now.limits.now) s (record { family = shape.now.family; exponents = shape.now.exponents }) → ⊥) (λ s. InCone self.now.n (map E.Element.shown self.now.rows.now) (limits_of self.now.limits.now) s (record { family = shape.now.family; exponents = shape.now.exponents }) × ((q : ℕ) → q < s → InCone self.now.n (map E.Element.shown self.now.rows.now) (limits_of self.now.limits.now) q (record { family = shape.now.family; exponents = shape.now.exponents }) → ⊥)) }
+    {
+        let (limits, n) = (self.limits, self.n);
+        self.rows.iter().enumerate().position(|(place, row)| holds(
+            row,
+            lent_limits(limits, place),
+            n,
+            shape,
+        ))
+    }
+
     // The first place whose cone holds the element. Where limits separate the rows there is no other such place,
     // and its row is the greatest that divides the element.
     pub fn cone_of(&self, element: &E) -> Option<usize>
@@ -36,12 +71,6 @@ impl<E: Element> Limited<'_, E> {
         ensures alone { ConesAreDisjoint }
         ensures greatest { TheConeIsOfTheGreatestDivisor }
     {
-        let (limits, n) = (self.limits, self.n);
-        self.rows.iter().enumerate().position(|(place, row)| in_cone(
-            row,
-            &limits_at(limits, place),
-            n,
-            element,
-        ))
+        self.place_of(&Shape::of(element))
     }
 }

@@ -22,11 +22,13 @@ fn limits_of_row<E: Element, D: Division>(
 ) -> Limits
     ensures { LimitsFrom n (D.Division.meaning division.now (map E.Element.shown ranked.now.rows.now) ranked.now.order.now place) result }
 {
-    let mut limits = [None; 8];
-    for v in 1..=n.min(8) {
-        limits[v as usize - 1] = division.limit(ranked, place, v);
-    }
-    limits
+    array::from_fn(|i| {
+        if i < n as usize {
+            division.limit(ranked, place, i as u8 + 1)
+        } else {
+            None
+        }
+    })
 }
 
 // The limits that a division sets for variables 1 to n at each of 64 places, each obtained once. Other variables have none.

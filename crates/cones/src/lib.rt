@@ -3,5 +3,6 @@
 
 pub mod holding;
 pub mod judging;
+mod shapes;
 pub mod shortfalls;
 pub mod tables;

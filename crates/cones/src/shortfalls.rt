@@ -1,12 +1,13 @@
 // Whether rows are complete.
-ghost use Rattle.std.specs.Prelude.{ℕ, ◌≤◌, map, Decides, MatchOption};
-ghost use Rattle.elements.specs.Element.{exponent, times, Variable};
-ghost use Rattle.cones.specs.Cones.{InCone, Shortfall, FirstShortfall, Small, CompleteExactlyWithoutShortfall, JanetLikeCompletesWhatAnyCompletes};
+ghost use Rattle.std.specs.Prelude.{ℕ, map, Decides, MatchOption};
+ghost use Rattle.elements.specs.Element.{times};
+ghost use Rattle.cones.specs.Cones.{InCone, Shortfall, FirstShortfall, CompleteExactlyWithoutShortfall, JanetLikeCompletesWhatAnyCompletes};
 ghost use Rattle.cones.specs.Tables.{limits_of};
 
 use crate::holding::*;
+use crate::shapes::*;
 use crate::tables::*;
-use elements::{Element, times_power};
+use elements::Element;
 
 // The row at a place, times a power of a variable that is limited there, lies in no cone.
 #[derive(Clone, Copy, PartialEq, Eq, Debug)]
@@ -16,13 +17,24 @@ pub struct Short {
     pub power: u16,
 }
 
+// For the product of a row with a power of a variable, the place of a row whose cone may hold it.
+pub type Guesses = [[usize; 8]; 64];
+
 impl<E: Element> Limited<'_, E> {
-    // Whether a row times a power of a variable lies in no cone. A product past 65,535, which no element can show, counts as such.
-    fn falls_short(&self, row: &E, variable: u8, power: u16) -> bool
-        ensures { Variable variable → ((v : ℕ) → exponent (E.Element.shown row.now) v ≤ 4095) → power ≤ 4096 → Decides result ((s : ℕ) → InCone self.now.n (map E.Element.shown self.now.rows.now) (limits_of self.now.limits.now) s (times (E.Element.shown row.now) variable power) → ⊥) }
+    // Whether a row times a power of a variable lies in no cone. The cone of the guess is looked at first,
+    // and where another one holds the product, its place is the guess from then on.
+    fn falls_short(&self, row: &E, variable: u8, power: u16, guess: &mut usize) -> bool
+        ensures { Decides result ((s : ℕ) → InCone self.now.n (map E.Element.shown self.now.rows.now) (limits_of self.now.limits.now) s (times (E.Element.shown row.now) variable power) → ⊥) }
     {
-        match times_power(row, variable, power) {
-            Some(product) => self.cone_of(&product).is_none(),
+        let product = Shape::of_product(row, variable, power);
+        if self.holds_at(*guess, &product) {
+            return false;
+        }
+        match self.place_of(&product) {
+            Some(place) => {
+                *guess = place;
+                false
+            }
             None => true,
         }
     }
@@ -30,16 +42,26 @@ impl<E: Element> Limited<'_, E> {
     // The first shortfall: at the lowest place and, there, in the lowest variable. Where limits separate the rows these are
     // complete exactly if there is none, and rows that any such limits complete are completed by the Janet-like ones.
     pub fn first_shortfall(&self) -> Option<Short>
-        ensures first { Small self.now.n (map E.Element.shown self.now.rows.now) (limits_of self.now.limits.now) → MatchOption result ((p v m : ℕ) → Shortfall self.now.n (map E.Element.shown self.now.rows.now) (limits_of self.now.limits.now) p v m → ⊥) (λ s. FirstShortfall self.now.n (map E.Element.shown self.now.rows.now) (limits_of self.now.limits.now) s.place s.variable s.power) }
+        ensures first { MatchOption result ((p v m : ℕ) → Shortfall self.now.n (map E.Element.shown self.now.rows.now) (limits_of self.now.limits.now) p v m → ⊥) (λ s. FirstShortfall self.now.n (map E.Element.shown self.now.rows.now) (limits_of self.now.limits.now) s.place s.variable s.power) }
         ensures complete { CompleteExactlyWithoutShortfall }
         ensures janet_like { JanetLikeCompletesWhatAnyCompletes }
     {
+        self.first_shortfall_by(&mut [[0; 8]; 64])
+    }
+
+    // The same, with guesses where the products lie. Whatever they are, what is found is the same; good ones save time, as in a search
+    // through tables of limits in which most products lie where they lay before.
+    pub fn first_shortfall_by(&self, guesses: &mut Guesses) -> Option<Short>
+        ensures { MatchOption result ((p v m : ℕ) → Shortfall self.now.n (map E.Element.shown self.now.rows.now) (limits_of self.now.limits.now) p v m → ⊥) (λ s. FirstShortfall self.now.n (map E.Element.shown self.now.rows.now) (limits_of self.now.limits.now) s.place s.variable s.power) }
+    {
+        // loops that are left by a label: a rule of the project
         'search: {
             for (place, row) in self.rows.iter().enumerate() {
-                let limited = limits_at(self.limits, place);
+                let limited = lent_limits(self.limits, place);
                 for variable in 1..=self.n {
-                    if let Some(power) = limit_of(&limited, variable) {
-                        if self.falls_short(row, variable, power) {
+                    if let Some(power) = limit_of(limited, variable) {
+                        let guess = &mut guesses[place % 64][variable as usize % 8];
+                        if self.falls_short(row, variable, power, guess) {
                             break 'search Some(Short {
                                 place,
                                 variable,

@@ -5,6 +5,9 @@ ghost use Rattle.cones.specs.Tables.{limit_in, limits_at};
 // The limits of a row, one for each of eight variables.
 pub type Limits = [Option<u16>; 8];
 
+// The limits of a row past the end of the table.
+static UNLIMITED: Limits = [None; 8];
+
 // The limit of a variable: none where there is no such variable.
 pub fn limit_of(limits: &Limits, variable: u8) -> Option<u16>
     ensures { result ≡ limit_in limits.now variable }
@@ -13,9 +16,16 @@ pub fn limit_of(limits: &Limits, variable: u8) -> Option<u16>
     *limits.get(index)?
 }
 
+// The limits of the row at a place, without a copy.
+pub(crate) fn lent_limits(table: &[Limits], place: usize) -> &Limits
+    ensures { result.now ≡ limits_at table.now place }
+{
+    table.get(place).unwrap_or(&UNLIMITED)
+}
+
 // The limits of the row at a place: none past the end of the table.
 pub fn limits_at(table: &[Limits], place: usize) -> Limits
     ensures { result ≡ limits_at table.now place }
 {
-    table.get(place).copied().unwrap_or([None; 8])
+    *lent_limits(table, place)
 }

@@ -5,7 +5,7 @@ use Rattle.std.proofs.lemmas.Bool.{cases_eq, cases_lt, cases_Bool, eq-eqb, ne_eq
 use Rattle.std.proofs.lemmas.Bool.Decides.{same_from_decides, Decides-like}
 use Rattle.elements.specs.Element.{Shown}
 use Rattle.divisions.specs.Laws.{Meaning, Lawful}
-use Rattle.cones.specs.Cones.{Limits, Shortfall, FirstShortfall, Small}
+use Rattle.cones.specs.Cones.{Limits, Shortfall, FirstShortfall}
 use Rattle.cones.specs.declared.shortfalls.Short.{Short}
 use Rattle.cones.specs.Tables.{limit_in, limits_at, limits_of}
 use Rattle.search.specs.Prefixes.{has, Entries, Prefix, completed}
@@ -14,8 +14,8 @@ use Rattle.search.specs.Columns.{Wide, Written, Tabled, Extended}
 use Rattle.search.proofs.Entries.{has_snoc}
 use Rattle.search.proofs.Listed.{has_middle, apart_middle, entries_front}
 use Rattle.search.proofs.Orders.{count_unused, completed_front}
-use Rattle.search.proofs.Testing.{only_listed, only_kept}
-use Rattle.search.proofs.Deadness.{shortfall_on, live_is_told_by_its_test, on, begun, same_limits, front_more, has_on}
+use Rattle.search.proofs.Testing.{only_kept}
+use Rattle.search.proofs.Deadness.{shortfall_on, live_is_told_by_its_test, begun, same_limits, front_more, has_on}
 
 -- what `is_none` tells of a first shortfall
 pub decides_shortfall : (n : ℕ) (rows : List Shown) (lim : Limits) (o : Option Short) (b : Bool) → is_some o ≡ not b →
@@ -77,14 +77,6 @@ module _ (m : Meaning) (lawful : Lawful m) (n : ℕ) (rows : List Shown) (s : Ro
       }
 
   module _ (p : List ℕ) (h : Prefix n p) (table : List (List (Option ℕ))) (t : Tabled m n rows p table) where
-    pub tabled_small : Small n rows (limits_of table)
-    tabled_small = record {
-      exponents = λ q v hq. (s.fit.fit q hq).small v;
-      limits = λ q v d hq low high e.
-          let (listed, is) = only_listed p (m rows (completed n p)) q v d (sym (t.limits q v hq low high) ∙ e) in
-          (lawful.range n rows (completed n p) (on m lawful n rows s (completed n p) (begun m lawful n rows s p h.entries)) q v d hq low high is).1;
-    }
-
     -- whoever tells whether the table has a shortfall tells whether the prefix is live
     pub tabled_live : (r : Bool) → Decides r ((q v d : ℕ) → Shortfall n rows (limits_of table) q v d → ⊥) → r ≡ live m n rows p
     tabled_live r told =
@@ -99,7 +91,7 @@ module _ (m : Meaning) (lawful : Lawful m) (n : ℕ) (rows : List Shown) (s : Ro
   pub extended : (p q : List ℕ) (x : ℕ) (order : List ℕ) (old new : List (List (Option ℕ))) (count : ℕ) (r : Bool) →
       p ≡ q ++ (x ∷ []) → Prefix n p → order ≡ completed n p → length rows ≡ count → Tabled m n rows q old →
       Written (λ c. m rows order c x) x count old new →
-      (Small n rows (limits_of new) → Decides r ((c v d : ℕ) → Shortfall n rows (limits_of new) c v d → ⊥)) →
+      Decides r ((c v d : ℕ) → Shortfall n rows (limits_of new) c v d → ⊥) →
       Extended m n rows p r new
   extended p q x order old new count r more h is long t w told =
       let entries : Entries n (q ++ (x ∷ [])) = rw more at h.entries in
@@ -107,7 +99,7 @@ module _ (m : Meaning) (lawful : Lawful m) (n : ℕ) (rows : List Shown) (s : Ro
       let tabled : Tabled m n rows (q ++ (x ∷ [])) new =
       tabled_more q x entries old new t (λ wide. ((w wide).0, λ c v l. rw (← order_is) ((w wide).1 c v (omega arith)))) in
       let whole : Tabled m n rows p new = rw more tabled in
-      record { told = tabled_live p h new whole r (told (tabled_small p h new whole)); tabled = whole }
+      record { told = tabled_live p h new whole r told; tabled = whole }
 
 module _ (m : Meaning) (lawful : Lawful m) (n : ℕ) (rows : List Shown) (s : RowsOfSheet n rows) where
   -- no entries, no limits

@@ -6,6 +6,7 @@ ghost use Rattle.search.specs.Columns.{Written, Tabled, Extended};
 use crate::prefixes::*;
 use barcode::Ranked;
 use cones::holding::Limited;
+use cones::shortfalls::Guesses;
 use cones::tables::Limits;
 use divisions::Division;
 use elements::Element;
@@ -37,8 +38,10 @@ pub(crate) fn clear_column(table: &mut [Limits; 64], x: u8)
 }
 
 // Adds the limits of the last entry of a prefix to those of the others in the table, and tells whether the prefix is live.
+// A product that lay in a cone by the limits of the shorter prefix mostly lies in the same one: that is what is guessed.
 pub(crate) fn extend<E: Element, D: Division>(
     table: &mut [Limits; 64],
+    guesses: &mut Guesses,
     division: &D,
     rows: &[E],
     prefix: &Prefix,
@@ -58,5 +61,5 @@ pub(crate) fn extend<E: Element, D: Division>(
         limits: &table[..],
         n: prefix.n,
     };
-    limited.first_shortfall().is_none()
+    limited.first_shortfall_by(guesses).is_none()
 }

@@ -42,6 +42,7 @@ pub fn search<E: Element, D: Division>(division: &D, rows: &[E], n: u8) -> Found
     }
     let mut prefix = Prefix::new(n);
     let mut table = [[None; 8]; 64];
+    let mut guesses = [[0; 8]; 64];
     let mut from: u8 = 0;
     let mut tested: u32 = 0;
     // a loop that breaks with the ordering: a rule of the project
@@ -57,7 +58,7 @@ pub fn search<E: Element, D: Division>(division: &D, rows: &[E], n: u8) -> Found
             Some(x) => {
                 prefix.push(x);
                 tested += 1;
-                if !extend(&mut table, division, rows, &prefix) {
+                if !extend(&mut table, &mut guesses, division, rows, &prefix) {
                     prefix.pop();
                     from = x;
                     clear_column(&mut table, x);

@@ -19,5 +19,5 @@ returns g c = λ s t.
     _ _ c.last.result c.completed-order.result c.args.table.now c.fill_column.new.table _ c.is_none.result
     (rw c.last.ensures at (held_last (held p) (p.len - 1) (omega (arith, c.requires.some)))) (held_prefix (held p) c.requires.some)
     c.completed-order.ensures (length-map c.args.rows.now shown) t c.fill_column.ensures
-    (λ small. decides_shortfall p.n (map shown c.args.rows.now) (limits_of c.fill_column.new.table) c.first_shortfall.result c.is_none.result
-    c.is_none.ensures (c.first_shortfall.ensures.first small))
+    (decides_shortfall p.n (map shown c.args.rows.now) (limits_of c.fill_column.new.table) c.first_shortfall_by.result c.is_none.result
+    c.is_none.ensures c.first_shortfall_by.ensures)

@@ -1,0 +1,51 @@
+// Families with exponents that may pass 65,535, as a product with a power has them.
+ghost use Rattle.std.specs.Prelude.{◌≡◌, Decides};
+ghost use Rattle.elements.specs.Element.{Divides, times};
+
+use elements::Element;
+use std::array;
+
+// What an element or its product with a power shows.
+#[derive(Clone, Copy)]
+pub(crate) struct Shape {
+    pub(crate) family: u8,
+    pub(crate) exponents: [u32; 8],
+}
+
+impl Shape {
+    // What an element shows.
+    pub(crate) fn of<E: Element>(element: &E) -> Shape
+        ensures { record { family = result.family; exponents = result.exponents } ≡ E.Element.shown element.now }
+    {
+        let exponents = element.exponents();
+        Shape {
+            family: element.family(),
+            exponents: array::from_fn(|i| u32::from(exponents[i])),
+        }
+    }
+
+    // What its product with a power of a variable shows.
+    pub(crate) fn of_product<E: Element>(element: &E, variable: u8, power: u16) -> Shape
+        ensures { record { family = result.family; exponents = result.exponents } ≡ times (E.Element.shown element.now) variable power }
+    {
+        let exponents = element.exponents();
+        let (variable, power) = (usize::from(variable), u32::from(power));
+        Shape {
+            family: element.family(),
+            exponents: array::from_fn(|i| u32::from(exponents[i])
+                + if i + 1 == variable { power } else { 0 }),
+        }
+    }
+
+    // Whether a row divides it.
+    pub(crate) fn is_multiple_of<E: Element>(&self, row: &E) -> bool
+        ensures { Decides result (Divides (E.Element.shown row.now) (record { family = self.now.family; exponents = self.now.exponents })) }
+    {
+        row.family() == self.family
+            && row
+                .exponents()
+                .iter()
+                .zip(self.exponents.iter())
+                .all(|(least, given)| u32::from(*least) <= *given)
+    }
+}
