@@ -1,5 +1,6 @@
 use Rattle.std.proofs.Common.{◌≡◌, ℕ, ◌∙◌, rules}
-use Rattle.commands.proofs.Elements.{element_written, made, pair}
+use Rattle.elements.proofs.Made.{made}
+use Rattle.commands.proofs.Elements.{element_written, pair}
 use Rattle.commands.proofs.element_of.Goals as goal
 
 pub returns : goal.returns
