@@ -21,10 +21,10 @@ one_is : (l : ℕ) → ◌≡◌ {A = Option ℕ} (Some 1) (Some l) → 1 ≡ l
 one_is l e = cc
 
 -- the kinds: plain terms, and derivatives
-abbrev of_plain : ℕ → Bool
+abbrev pub of_plain : ℕ → Bool
 of_plain f = eqb f 0
 
-abbrev of_derivatives : ℕ → Bool
+abbrev pub of_derivatives : ℕ → Bool
 of_derivatives f = leb 1 f && leb f 16
 
 sheet_a : RowsOfSheet 3 set_a

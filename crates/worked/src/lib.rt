@@ -1,8 +1,10 @@
-// The worked sets: nine results shown together, and one of them run.
+// The worked sets: nine results shown together, twelve small sheets on which the definitions and the second implementation agree,
+// and one of the results run.
 #![tactic(auto)]
 
 ghost use Rattle.std.specs.Prelude.{◌≡◌, [], ◌∷◌, Some};
 ghost use Rattle.worked.specs.Sets.{TheNineWorkedResults};
+ghost use Rattle.worked.specs.Seeded.{TheSeededSheetsAreAsTheReferenceSays};
 
 use divisions::Janet;
 use elements::{Element, PlainTerm};
@@ -13,6 +15,7 @@ pub fn settle_set_b() -> Found
     ensures tested { result.tested ≡ 3 }
     ensures ordering { result.ordering ≡ Some (2 ∷ 1 ∷ 0 ∷ 0 ∷ 0 ∷ 0 ∷ 0 ∷ 0 ∷ []) }
     ensures nine { TheNineWorkedResults }
+    ensures seeded { TheSeededSheetsAreAsTheReferenceSays }
 {
     let cube = PlainTerm::make(0, [3, 0, 0, 0, 0, 0, 0, 0]);
     let mixed = PlainTerm::make(0, [1, 1, 0, 0, 0, 0, 0, 0]);

@@ -1,0 +1,148 @@
+#!/usr/bin/env python3
+"""Writes what the reference says of small sheets made by seed, for the prover to compute from the definitions.
+
+    python3 reference/seeded.py
+
+writes crates/worked/specs/Seeded.antt, the sheets with their bars, gaps,
+verdicts, answers and counts, and crates/worked/proofs/Seeded.antt, where the
+prover finds the same by computing.
+"""
+
+import os
+
+import selfcheck
+import sheetlog
+
+SEED, COUNT = "definitions", 12
+JANET, LIKE = sheetlog.JANET, sheetlog.JANET_LIKE
+CRATE = os.path.join(os.path.dirname(os.path.abspath(__file__)), "..", "crates", "worked")
+
+
+def listed(items):
+    return " ∷ ".join(list(items) + ["[]"])
+
+
+def table(rows):
+    return listed("(" + listed(row) + ")" for row in rows)
+
+
+def option(value):
+    return "None" if value is None else f"Some {value}"
+
+
+def finite(limit):
+    return None if limit == sheetlog.NO_LIMIT else limit
+
+
+class Sheet:
+    """A sheet with what the reference says of it."""
+
+    def __init__(self, number, n, rows):
+        self.number = number
+        self.n = n
+        self.rows = rows
+        self.families = "of_plain" if rows[0][0] == 0 else "of_derivatives"
+        self.ordering = selfcheck.some_ordering(n, rows)
+        self.reference = sheetlog.Rows(rows, n)
+
+    def elements(self):
+        return listed("element " + " ".join(map(str, (f,) + e[:3])) for f, e in self.rows)
+
+    def eight(self):
+        return listed(map(str, self.ordering + (0,) * (8 - self.n)))
+
+    def bars(self):
+        variables = range(1, self.n + 1)
+        return table([str(selfcheck.bar_number(self.rows, self.ordering, u, v)) for v in variables]
+                     for u in self.rows)
+
+    def gaps(self):
+        tops = {v: frozenset(self.ordering[:self.ordering.index(v)]) for v in self.ordering}
+        columns = [self.reference.limits(LIKE, tops[v], v) for v in range(1, self.n + 1)]
+        return table([option(finite(column[p])) for column in columns] for p in range(len(self.rows)))
+
+    def complete(self, division):
+        return str(self.reference.first_shortfall(division, self.ordering) is None).lower()
+
+    def settles(self, division, name):
+        answer, count = self.reference.search(division)
+        answer = "None" if answer is None else f"(Some ({listed(map(str, answer))}))"
+        return f"Settles {name} {self.n} sheet_{self.number} {answer} {count}"
+
+    def evaluates(self):
+        return (f"Evaluates {self.n} sheet_{self.number} ({self.eight()}) ({self.bars()}) ({self.gaps()}) "
+                f"{self.complete(JANET)} {self.complete(LIKE)}")
+
+
+def sheets():
+    """As many that Janet division settles as others."""
+    kept = {True: [], False: []}
+    for n, rows in selfcheck.small_sheets(SEED, 10000, 3, 3, 5):
+        answered = sheetlog.Rows(rows, n).search(JANET)[0] is not None
+        if n > 1 and len(rows) > 2 and len(kept[answered]) < COUNT // 2:
+            kept[answered].append((n, rows))
+    return [Sheet(number, *made) for number, made in enumerate(kept[True] + kept[False], 1)]
+
+
+SPECS = """-- Small sheets made by seed, with what the second implementation says of them. Written by reference/seeded.py. Assumes nothing.
+use Rattle.std.specs.Prelude.{◌≡◌, ℕ, Bool, true, false, List, [], ◌∷◌, map, length, take, Some, None, Option}
+use Rattle.std.specs.List.{range_with_len}
+use Rattle.elements.specs.Element.{Shown}
+use Rattle.orderings.specs.Rows.{row}
+use Rattle.barcode.specs.Bars.{bar_number}
+use Rattle.barcode.specs.Gap.{gap}
+use Rattle.divisions.specs.Janet.{janet, janet_like}
+use Rattle.search.specs.Liveness.{live}
+use Rattle.worked.specs.Sets.{element, Settles}
+
+-- a list for each place, with an entry for each variable
+abbrev pub table : {A : Type 0} → ℕ → List Shown → (ℕ → ℕ → A) → List (List A)
+table n rows f = map (λ p. map (f p) (range_with_len 1 n)) (range_with_len 0 (length rows))
+
+-- the numbers of bars and the gaps under an ordering, and whether it makes the rows complete by Janet and by Janet-like division
+pub record Evaluates (n : ℕ) (rows : List Shown) (order : List ℕ) (bars : List (List ℕ)) (gaps : List (List (Option ℕ))) (by_janet by_janet_like : Bool) : Type 0 where
+  pub bars_are : table n rows (λ p v. bar_number rows order (row rows p) v) ≡ bars
+  pub gaps_are : table n rows (gap rows order) ≡ gaps
+  pub janet_says : live janet n rows (take n order) ≡ by_janet
+  pub janet_like_says : live janet_like n rows (take n order) ≡ by_janet_like
+"""
+
+PROOFS = """-- What the second implementation says of the seeded sheets, by computing the definitions. Written by reference/seeded.py. Assumes nothing.
+use Rattle.std.proofs.Common.{true, false, [], ◌∷◌, Some, None, refl}
+use Rattle.divisions.specs.Janet.{janet, janet_like}
+use Rattle.search.specs.Prefixes.{prefixes}
+use Rattle.search.specs.Walks.{first_live, tested_to}
+use Rattle.worked.specs.Sets.{Settles}
+use Rattle.worked.specs.Seeded.{SHEETS, Evaluates, TheSeededSheetsAreAsTheReferenceSays}
+use Rattle.worked.proofs.Fitting.{rows_from}
+use Rattle.worked.proofs.Results.{of_plain, of_derivatives}
+"""
+
+
+def main():
+    all_sheets = sheets()
+    specs = [SPECS]
+    for sheet in all_sheets:
+        specs.append(f"abbrev pub sheet_{sheet.number} : List Shown\nsheet_{sheet.number} = {sheet.elements()}\n")
+    fields, parts = [], []
+    proofs = [PROOFS.replace("SHEETS", ", ".join(f"sheet_{sheet.number}" for sheet in all_sheets))]
+    for sheet in all_sheets:
+        for name, says in ((f"told_{sheet.number}", sheet.evaluates()),
+                           (f"janet_{sheet.number}", sheet.settles(JANET, "janet")),
+                           (f"janet_like_{sheet.number}", sheet.settles(LIKE, "janet_like"))):
+            fields.append(f"  pub {name} : {says}")
+            parts.append(f"  {name} = {name};")
+            if says.startswith("Evaluates"):
+                body = "record { bars_are = refl; gaps_are = refl; janet_says = refl; janet_like_says = refl }"
+            else:
+                body = f"record {{ sheet = rows_from {sheet.families} {sheet.n} sheet_{sheet.number} refl; answers = refl; counts = refl }}"
+            proofs.append(f"{name} : {says}\nunfolding first_live tested_to prefixes\n{name} = {body}\n")
+    specs.append("pub record TheSeededSheetsAreAsTheReferenceSays : Type 0 where\n" + "\n".join(fields) + "\n")
+    proofs.append("pub seeded : TheSeededSheetsAreAsTheReferenceSays\nseeded = record {\n" + "\n".join(parts) + "\n}\n")
+    for folder, texts in (("specs", specs), ("proofs", proofs)):
+        with open(os.path.join(CRATE, folder, "Seeded.antt"), "w", encoding="utf-8") as file:
+            file.write("\n".join(texts))
+
+
+if __name__ == "__main__":
+    main()
