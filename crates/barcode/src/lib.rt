@@ -5,7 +5,7 @@ ghost use Rattle.std.specs.Prelude.{◌≡◌, ℕ, ◌<◌, ◌≤◌, true, �
 ghost use Rattle.orderings.specs.Order.{at, IsOrdering};
 ghost use Rattle.orderings.specs.Rows.{row as at_place};
 ghost use Rattle.barcode.specs.Bars.{position as position_in, SameBar, LowerBar, Rises, Star, bar_number, lower_bar, opens_bar, BarNumberCountsTheDifferentLowerBars};
-ghost use Rattle.barcode.specs.Gap.{rise as rise_of, lesser, gap as gap_of, IsGap};
+ghost use Rattle.barcode.specs.Gap.{rise as rise_of, gap as gap_of, IsGap};
 
 use elements::{Element, exponent_of};
 use orderings::comparing::part_at;
@@ -35,7 +35,7 @@ fn rises<E: Element>(u: &E, w: &E, order: &[u8], variable: u8) -> bool
 {
     let low = exponent_of(&u.exponents(), variable);
     let high = exponent_of(&w.exponents(), variable);
-    // what most rows fail at comes first
+    // the cheapest test comes first
     if high <= low {
         return false;
     }

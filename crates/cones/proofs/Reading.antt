@@ -1,13 +1,14 @@
 -- Limits as the code reads them. Assumes nothing.
-use Rattle.std.proofs.Common.{◌≡◌, ℕ, zero, suc, ◌+◌, ◌<◌, ◌≤◌, Bool, true, false, ◌&&◌, ltb, List, [], ◌∷◌, take, map, length, get_or, Some, None, MatchOption, Decides, Option, sym, refl, ap, ◌∙◌, inl, inr, arith}
+use Rattle.std.proofs.Common.{◌≡◌, ℕ, zero, suc, ◌+◌, ◌<◌, ◌≤◌, Bool, true, false, ◌&&◌, ltb, List, [], ◌∷◌, take, map, length, get_or, Some, None, MatchOption, Decides, Option, sym, refl, ◌∙◌, inl, inr, arith}
 use Rattle.std.specs.List.{list_all, zip, enumerate_from, AllWithin, HoldsAt}
 use Rattle.std.proofs.lemmas.List.FromFn.{length-enumerate_from, get_or-enumerate_from}
 use Rattle.std.specs.Option.{option_map_or}
-use Rattle.std.proofs.lemmas.List.{get_or_past, get_or_default, get_or-map, length-map}
+use Rattle.std.proofs.lemmas.List.{get_or_past, get_or_default, length-map}
 use Rattle.std.proofs.lemmas.Bool.{cases_lt, ltb-true, lt-ltb}
 use Rattle.std.proofs.lemmas.Bool.Decides.{not_from_Decides, Decides-and, Decides-like}
-use Rattle.elements.specs.Element.{Shown, Divides, times, quotient, Variable, blank}
+use Rattle.elements.specs.Element.{Shown, Divides, times, quotient, Variable}
 use Rattle.orderings.specs.Rows.{row}
+use Rattle.orderings.proofs.Places.{row_read}
 use Rattle.cones.specs.Cones.{Within, Holds, InCone, Shortfall}
 use Rattle.cones.specs.Tables.{limit_in, limits_at, limits_of}
 use Rattle.cones.proofs.Products.{quotient_at}
@@ -74,20 +75,20 @@ module _ (n : ℕ) (xs : List (Option ℕ)) (u w : Shown) (a : List ℕ) (is : a
 -- what the code reads at a place: an element and its limits
 module _ {E : Type 0} (shown : E → Shown) (n : ℕ) (rows : List E) (table : List (List (Option ℕ))) (p : ℕ) (x : E) (xs : List (Option ℕ))
     (l : p < length rows) (is : x ≡ get_or rows p x) (limits : xs ≡ limits_at table p) where
-  row_read : row (map shown rows) p ≡ shown x
-  row_read = get_or-map shown rows p x blank l ∙ ap shown (sym is)
+  shows : row (map shown rows) p ≡ shown x
+  shows = row_read shown rows p x l is
 
   place : p < length (map shown rows)
   place = omega (arith, length-map rows shown)
 
   pub in_cone_from : (w : Shown) → Holds n (limit_in xs) (shown x) w → InCone n (map shown rows) (limits_of table) p w
   in_cone_from w h =
-      let here : Holds n (limits_of table p) (row (map shown rows) p) w = rw (row_read, ← limits) h in
+      let here : Holds n (limits_of table p) (row (map shown rows) p) w = rw (shows, ← limits) h in
       record { place = place; divides = here.0; multiplier = here.1 }
 
   pub in_cone_to : (w : Shown) → InCone n (map shown rows) (limits_of table) p w → Holds n (limit_in xs) (shown x) w
   in_cone_to w cone =
-      let here : Holds n (limits_of table p) (row (map shown rows) p) w = (cone.divides, cone.multiplier) in rw (row_read, ← limits) at here
+      let here : Holds n (limits_of table p) (row (map shown rows) p) w = (cone.divides, cone.multiplier) in rw (shows, ← limits) at here
 
   -- variable v has limit m, and r tells whether the product with that power lies in no cone
   module _ (v m : ℕ) (o : Option ℕ) (r : Bool) (low : 1 ≤ v) (high : v ≤ n) (read : o ≡ limit_in xs v) (found : o ≡ Some m)
@@ -96,7 +97,7 @@ module _ {E : Type 0} (shown : E → Shown) (n : ℕ) (rows : List E) (table : L
     limited = rw limits at (sym read ∙ found)
 
     decided : Decides r ((s : ℕ) → InCone n (map shown rows) (limits_of table) s (times (row (map shown rows) p) v m) → ⊥)
-    decided = rw row_read told
+    decided = rw shows told
 
     pub shortfall_from : r ≡ true → Shortfall n (map shown rows) (limits_of table) p v m
     shortfall_from e = record { place = place; low = low; high = high; limit = limited; outside = decided.0 e }

@@ -16,8 +16,8 @@ pub struct Limited<'a, E> {
     pub n: u8,
 }
 
-// Whether a shape lies in the cone of a row with these limits of variables 1 to n: the row divides it, and in each
-// variable that has a limit it has less than that more than the row.
+// Whether a shape lies in the cone of a row with these limits of variables 1 to n: the row divides it, and each exponent
+// of a variable with a limit is below the row's and the limit together. The quotient is not made.
 fn holds<E: Element>(row: &E, limits: &Limits, n: u8, shape: &Shape) -> bool
     ensures { Decides result (Holds n (limit_in limits.now) (E.Element.shown row.now) (record { family = shape.now.family; exponents = shape.now.exponents })) }
 {
@@ -52,7 +52,7 @@ impl<E: Element> Limited<'_, E> {
     }
 
     // The first place whose cone holds a shape.
-    pub(crate) fn place_of(&self, shape: &Shape) -> Option<usize>
+    pub(crate) fn cone_of_shape(&self, shape: &Shape) -> Option<usize>
         ensures { MatchOption result ((s : ℕ) → InCone self.now.n (map E.Element.shown self.now.rows.now) (limits_of self.now.limits.now) s (record { family = shape.now.family; exponents = shape.now.exponents }) → ⊥) (λ s. InCone self.now.n (map E.Element.shown self.now.rows.now) (limits_of self.now.limits.now) s (record { family = shape.now.family; exponents = shape.now.exponents }) × ((q : ℕ) → q < s → InCone self.now.n (map E.Element.shown self.now.rows.now) (limits_of self.now.limits.now) q (record { family = shape.now.family; exponents = shape.now.exponents }) → ⊥)) }
     {
         let (limits, n) = (self.limits, self.n);
@@ -71,6 +71,6 @@ impl<E: Element> Limited<'_, E> {
         ensures alone { ConesAreDisjoint }
         ensures greatest { TheConeIsOfTheGreatestDivisor }
     {
-        self.place_of(&Shape::of(element))
+        self.cone_of_shape(&Shape::of(element))
     }
 }

@@ -31,7 +31,8 @@ fn limits_of_row<E: Element, D: Division>(
     })
 }
 
-// The limits that a division sets for variables 1 to n at each of 64 places, each obtained once. Other variables have none.
+// The limits that a division sets for variables 1 to n at each of 64 places, with a row or without one, each obtained once.
+// Other variables have none.
 pub fn limits_by<E: Element, D: Division>(division: &D, ranked: &Ranked<E>, n: u8) -> [Limits; 64]
     ensures { (p : ℕ) → p < 64 → LimitsFrom n (D.Division.meaning division.now (map E.Element.shown ranked.now.rows.now) ranked.now.order.now p) (limits_at result p) }
 {

@@ -5,7 +5,8 @@ ghost use Rattle.elements.specs.Element.{Divides, times};
 use elements::Element;
 use std::array;
 
-// What an element or its product with a power shows.
+// What an element or its product with a power shows. It is no element, which cannot show such a product,
+// and reads like one so that a cone is tested in one way for both.
 #[derive(Clone, Copy)]
 pub(crate) struct Shape {
     pub(crate) family: u8,

@@ -17,7 +17,8 @@ pub struct Short {
     pub power: u16,
 }
 
-// For the product of a row with a power of a variable, the place of a row whose cone may hold it.
+// For the product of a row with a power of a variable, the place of a row whose cone may hold it: that of variable v at index v - 1,
+// as limits are kept. A table of its own, and places, not references: a rule of the project, as a search has no heap.
 pub type Guesses = [[usize; 8]; 64];
 
 impl<E: Element> Limited<'_, E> {
@@ -30,7 +31,7 @@ impl<E: Element> Limited<'_, E> {
         if self.holds_at(*guess, &product) {
             return false;
         }
-        match self.place_of(&product) {
+        match self.cone_of_shape(&product) {
             Some(place) => {
                 *guess = place;
                 false
@@ -49,18 +50,18 @@ impl<E: Element> Limited<'_, E> {
         self.first_shortfall_by(&mut [[0; 8]; 64])
     }
 
-    // The same, with guesses where the products lie. Whatever they are, what is found is the same; good ones save time, as in a search
-    // through tables of limits in which most products lie where they lay before.
+    // The same, with guesses where the products lie. Whatever they are, what is found is the same; a right one saves the search for the cone.
+    // Rows past the table of guesses share its lines, since any guess will do.
     pub fn first_shortfall_by(&self, guesses: &mut Guesses) -> Option<Short>
         ensures { MatchOption result ((p v m : ℕ) → Shortfall self.now.n (map E.Element.shown self.now.rows.now) (limits_of self.now.limits.now) p v m → ⊥) (λ s. FirstShortfall self.now.n (map E.Element.shown self.now.rows.now) (limits_of self.now.limits.now) s.place s.variable s.power) }
     {
-        // loops that are left by a label: a rule of the project
+        // nested loops left by a label: a rule of the project
         'search: {
             for (place, row) in self.rows.iter().enumerate() {
-                let limited = lent_limits(self.limits, place);
+                let limits = lent_limits(self.limits, place);
                 for variable in 1..=self.n {
-                    if let Some(power) = limit_of(limited, variable) {
-                        let guess = &mut guesses[place % 64][variable as usize % 8];
+                    if let Some(power) = limit_of(limits, variable) {
+                        let guess = &mut guesses[place % 64][(variable as usize - 1) % 8];
                         if self.falls_short(row, variable, power, guess) {
                             break 'search Some(Short {
                                 place,

@@ -1,7 +1,7 @@
 // Divisions: how far each row may be multiplied in each variable.
 #![tactic(auto)]
 
-ghost use Rattle.std.specs.Prelude.{◌≡◌, ℕ, map};
+ghost use Rattle.std.specs.Prelude.{◌≡◌, map};
 ghost use Rattle.std.specs.Option.{option_map};
 ghost use Rattle.divisions.specs.Laws.{Meaning, Lawful};
 ghost use Rattle.divisions.specs.Either.{either};

@@ -141,6 +141,7 @@ pub fn product<E: Element>(element: &E, term: &[u16; 8]) -> Option<E>
     ensures { MatchOption result (Overflows (E.Element.shown element.now) term.now) (λ p. E.Element.shown p ≡ multiplied (E.Element.shown element.now) term.now) }
 {
     let mut sums = element.exponents();
+    // by index: what is written through a zip of `iter_mut` is not known afterwards
     for (i, degree) in term.iter().enumerate() {
         sums[i] = sums[i].checked_add(*degree)?;
     }

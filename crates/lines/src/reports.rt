@@ -74,7 +74,7 @@ pub enum Report {
     // The line of each command, and the place after the last whole one.
     Log {
         variables: u8,
-        // its byte, as the input had it
+        // its byte, and no Kind: a report may be made with any byte, and a narrower type would ask more of whoever makes one
         kind: u8,
         lines: Vec<Line>,
         end: usize,

@@ -1,5 +1,5 @@
 -- The call that a command makes: it is lawful, and there is one. Assumes nothing.
-use Rattle.std.proofs.Common.{◌≡◌, ℕ, List, Some, None, Option, refl, ap, subst, arith}
+use Rattle.std.proofs.Common.{◌≡◌, ℕ, List, Some, None, Option, sym, refl, ap, subst, arith}
 use Rattle.std.specs.Option.{option_map}
 use Rattle.orderings.specs.Answer.{Answer}
 use Rattle.divisions.specs.Laws.{Meaning, Lawful}
@@ -10,7 +10,7 @@ use Rattle.runs.specs.Runs.{LawfulCall, Sound}
 use Rattle.runs.proofs.Sound.{every_call_keeps_books_sound}
 use Rattle.runs.proofs.Once.{a_call_has_one_outcome}
 use Rattle.logs.specs.Session.{Calls, inserts, withdraws, arranges, judges, weighs, settles, locates, reopens, Commanded, untaken, undivided, called}
-use Rattle.logs.proofs.Printing.{the_same, not_some}
+use Rattle.runs.proofs.Steps.{nothing_is_some, one_some}
 
 -- the call, if there is one, is lawful
 abbrev LawfulIfAny : Option Call → Type 0
@@ -73,10 +73,10 @@ a_command_has_one_outcome b c d code operands a o sound (untaken x) (undivided t
 a_command_has_one_outcome b c d code operands a o sound (untaken x) (called t y u f) = absurd (x t)
 a_command_has_one_outcome b c d code operands a o sound (undivided t x) (untaken y) = absurd (y t)
 a_command_has_one_outcome b c d code operands a o sound (undivided t x) (undivided s y) = (refl, refl)
-a_command_has_one_outcome b c d code operands a o sound (undivided t x) (called {call = other} s y u f) = absurd (not_some (one_call code operands None (Some other) x y))
+a_command_has_one_outcome b c d code operands a o sound (undivided t x) (called {call = other} s y u f) = absurd (nothing_is_some (one_call code operands None (Some other) x y))
 a_command_has_one_outcome b c d code operands a o sound (called t x u f) (untaken y) = absurd (y t)
-a_command_has_one_outcome b c d code operands a o sound (called {call = call} t x u f) (undivided s y) = absurd (not_some (one_call code operands None (Some call) y x))
+a_command_has_one_outcome b c d code operands a o sound (called {call = call} t x u f) (undivided s y) = absurd (nothing_is_some (one_call code operands None (Some call) y x))
 a_command_has_one_outcome b c d code operands a o sound (called {call = call} t x u f) (called {call = other} s y v g) =
-    let same : other ≡ call = the_same (one_call code operands (Some other) (Some call) y x) in
+    let same : other ≡ call = sym (one_some (one_call code operands (Some other) (Some call) y x)) in
     let once = a_call_has_one_outcome b call (a_command_calls_lawfully code operands call x) sound in
     (once.1 a o u (subst (λ (k : Call). Answered b k o) same v), once.0 c d f (subst (λ (k : Call). Follows b k d) same g))

@@ -1,5 +1,5 @@
 -- The text of a command's line, by its answer. Assumes nothing.
-use Rattle.std.proofs.Common.{◌≡◌, ℕ, ◌-◌, Bool, List, [], ◌∷◌, get_or, Some, None, Ok, Err, codes, decimal, Option, sym, refl, ap, ◌∙◌, arith}
+use Rattle.std.proofs.Common.{◌≡◌, ℕ, ◌-◌, Bool, List, [], ◌∷◌, get_or, Some, None, Ok, Err, codes, decimal, Option, sym, refl, ap, ◌∙◌}
 use Rattle.std.specs.Option.{option_map}
 use Rattle.elements.specs.Element.{Shown}
 use Rattle.orderings.specs.Answer.{Answer, refused}
@@ -12,6 +12,7 @@ use Rattle.runs.specs.declared.requests.Grant.{Grant}
 use Rattle.runs.specs.declared.requests.Request.{Request}
 use Rattle.runs.specs.declared.requests.Sheet.{Sheet}
 use Rattle.runs.specs.Replies.{Reply, state_of, call_of, grant_told, grant_form, answer_of, Form, form_of, asked_form, done, Stepped}
+use Rattle.runs.proofs.Steps.{nothing_is_some, one_some}
 use Rattle.lines.specs.declared.faults.Untaken.{Untaken}
 use Rattle.lines.specs.declared.faults.Untaken.TheVariants.{WrongState, NoSuchDivision}
 use Rattle.lines.specs.declared.faults.Cause.TheVariants.{Session}
@@ -32,25 +33,19 @@ granted_line shown place code n reply grant told same words asked =
     ap (λ (a : Answer). entry_text n (entry place code a)) (sym (ap (answer_of shown) same))
 
 -- the form of a code is that of the call which it makes
-pub the_same : {X : Type 0} {x y : X} → Some x ≡ Some y → x ≡ y
-the_same e = cc
-
-pub not_some : {X : Type 0} {x : X} → None ≡ Some x → ⊥
-not_some e = let z : ◌≡◌ {A = ℕ} 0 1 = cc in absurd (omega arith)
-
 mapped_form : (make : Meaning → Call) (f : Form) → ((m : Meaning) → asked_form (make m) ≡ f) → (d : Option Meaning) (call : Call) → option_map make d ≡ Some call → f ≡ asked_form call
-mapped_form make f h None call e = absurd (not_some e)
-mapped_form make f h (Some m) call e = sym (h m) ∙ ap asked_form (the_same e)
+mapped_form make f h None call e = absurd (nothing_is_some e)
+mapped_form make f h (Some m) call e = sym (h m) ∙ ap asked_form (sym (one_some e))
 
 pub form_of_code : (code : ℕ) (operands : List ℕ) (o : Option Call) (call : Call) → Calls code operands o → o ≡ Some call → get_or forms (code - 1) done ≡ asked_form call
-form_of_code code operands o call inserts e = ap asked_form (the_same e)
-form_of_code code operands o call withdraws e = ap asked_form (the_same e)
-form_of_code code operands o call arranges e = ap asked_form (the_same e)
+form_of_code code operands o call inserts e = ap asked_form (sym (one_some e))
+form_of_code code operands o call withdraws e = ap asked_form (sym (one_some e))
+form_of_code code operands o call arranges e = ap asked_form (sym (one_some e))
 form_of_code code operands o call (judges {d = d} x) e = mapped_form verdict _ (λ _. refl) d call e
 form_of_code code operands o call (weighs {d = d} {bytes = bytes} x) e = mapped_form (λ m. weigh m bytes) _ (λ _. refl) d call e
 form_of_code code operands o call (settles {d = d} x) e = mapped_form settle _ (λ _. refl) d call e
-form_of_code code operands o call locates e = ap asked_form (the_same e)
-form_of_code code operands o call reopens e = ap asked_form (the_same e)
+form_of_code code operands o call locates e = ap asked_form (sym (one_some e))
+form_of_code code operands o call reopens e = ap asked_form (sym (one_some e))
 
 -- what the session does not take
 pub faulty_line : {E : Type 0} (shown : E → Shown) (b : Book) (n place code seen : ℕ) (operands : List ℕ) (why : Untaken) → seen ≡ code → Decides shown b.state code operands (Err why) →

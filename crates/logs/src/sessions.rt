@@ -1,6 +1,5 @@
 // The session: its state and a command together decide what is done.
 ghost use Rattle.std.specs.Prelude.{◌≡◌, Some, None, MatchResult};
-ghost use Rattle.elements.specs.Element.{Shown};
 ghost use Rattle.divisions.specs.Janet.{IsNumbered};
 ghost use Rattle.commands.specs.Read.{code_of, operands_of};
 ghost use Rattle.runs.specs.Replies.{state_of};

@@ -11,7 +11,8 @@ use crate::refusals::*;
 use elements::{Element, exponent_of};
 use std::cmp::Ordering;
 
-// How the first of two elements stands to the second. It is no `Ordering`: it says so in the subject's words, and is told as 0, 1 or 2.
+// How the first of two elements stands to the second. It is no `Ordering`, which would be no plainer: a term is not less than another,
+// and the numbers 0, 1 and 2 by which it is told would have to stand in a function of their own.
 #[derive(Clone, Copy, PartialEq, Eq, Debug)]
 pub enum Comparison {
     Below,

@@ -19,8 +19,8 @@ use Rattle.runs.proofs.Runs.{one_call}
 pub nothing_is_some : {X : Type 0} {x : X} → None ≡ Some x → ⊥
 nothing_is_some e = let z : ◌≡◌ {A = ℕ} 0 1 = cc in absurd (omega arith)
 
-pub one_form : {a b : Form} → Some a ≡ Some b → b ≡ a
-one_form e = cc
+pub one_some : {X : Type 0} {a b : X} → Some a ≡ Some b → b ≡ a
+one_some e = cc
 
 module _ {E D : Type 0} (admits : ℕ → Bool) (shown : E → Shown) (meaning : D → Meaning) (law : (d : D) → Lawful (meaning d)) where
   -- a call that the state takes
@@ -57,7 +57,7 @@ module _ {E D : Type 0} (admits : ℕ → Bool) (shown : E → Shown) (meaning :
     pub granted_step : (x : R) (gr : Grant E) → told ≡ Ok x → grant_told shown gr ≡ tells x → grant_form gr ≡ asked_form (call_of shown meaning k) →
         Stepped admits shown meaning (Open s) request (Open t) (Ok gr)
     granted_step x gr is same form =
-        open_step (Open s) s t request k (Ok gr) (answer tells told) refl asked (ap granted same ∙ ap (answer tells) (sym is)) takes m (λ f e. one_form e ∙ form)
+        open_step (Open s) s t request k (Ok gr) (answer tells told) refl asked (ap granted same ∙ ap (answer tells) (sym is)) takes m (λ f e. one_some e ∙ form)
 
     pub refused_step : (why : Refusal) (reply : Reply E) → told ≡ Err why → IsErrAnd reply (λ n. n ≡ Refused why) → Stepped admits shown meaning (Open s) request (Open t) reply
     refused_step why reply is error =

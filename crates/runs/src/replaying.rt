@@ -10,7 +10,7 @@ use divisions::Division;
 use elements::Element;
 use sheets::opening::open;
 use sheets::parts::*;
-use std::alloc::{AllocError, AllocFailed, Global};
+use std::alloc::{AllocFailed, Global};
 
 // The sheet after a list of calls, and the reply to each.
 #[derive(Drop)]

@@ -60,6 +60,7 @@ fn step_settled<E: Element, D: Division>(
 {
     match request {
         Request::Locate(e) => {
+            // no `map` of the result: the prover does not take a case of a generic enum as its function
             let reply = match sheet.locate(e) {
                 Ok(place) => Ok(Grant::Place(place)),
                 Err(why) => Err(NotGranted::from(why)),

@@ -38,7 +38,7 @@ pub(crate) fn clear_column(table: &mut [Limits; 64], x: u8)
 }
 
 // Adds the limits of the last entry of a prefix to those of the others in the table, and tells whether the prefix is live.
-// A product that lay in a cone by the limits of the shorter prefix mostly lies in the same one: that is what is guessed.
+// It is guessed that a product lies in the cone where it lay by the limits of other prefixes.
 pub(crate) fn extend<E: Element, D: Division>(
     table: &mut [Limits; 64],
     guesses: &mut Guesses,

@@ -3,7 +3,8 @@ ghost use Rattle.std.specs.Prelude.{◌≡◌, ◌+◌, ◌-◌, ◌≤◌, fals
 ghost use Rattle.search.specs.Prefixes.{has, unused_above, Entries, padded, completed as completion};
 
 // The first entries of an ordering of n variables: distinct ones of these, the greatest first, with zeros after them.
-// It is an array and a length, and no Vec: a rule of the project, as the search has no heap.
+// It is an array and a length, and no Vec: a rule of the project, as the search has no heap. Its eight bytes, with the zeros,
+// are the order bytes of the ordering that it becomes, so that a list of fixed capacity would be no plainer.
 #[derive(Clone, Copy)]
 pub(crate) struct Prefix {
     entries: [u8; 8],
@@ -45,17 +46,12 @@ impl Prefix {
     }
 
     // The smallest variable above `from` that is not an entry.
-    #[tactic(auto, using(crate::proofs::Entries::above_yes, crate::proofs::Entries::above_no, crate::proofs::Entries::above_none))]
     pub(crate) fn next_unused(&self, from: u8) -> Option<u8>
         ensures { MatchOption result (unused_above self.now.n (take self.now.len self.now.entries) from ≡ []) (λ x. unused_above self.now.n (take self.now.len self.now.entries) from ≡ x ∷ unused_above self.now.n (take self.now.len self.now.entries) x) }
     {
-        for below in from..self.n {
-            let x = below + 1;
-            if !self.has(x) {
-                return Some(x);
-            }
-        }
-        None
+        (from..self.n)
+            .map(|below| below + 1)
+            .find(|x| !self.has(*x))
     }
 
     // The last entry.

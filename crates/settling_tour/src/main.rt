@@ -1,4 +1,7 @@
 // A guided tour: one task followed from beginning to end, each step told in words.
+// Two tours tell the same set, each its own way: one hands every failure on, the other keeps the last and tells runs of calls too.
+// So some of their functions are alike. A library between them would need a contract for each line of text that it prints,
+// and an edit that breaks it, and be no plainer.
 #![tactic(auto)]
 
 mod bars;

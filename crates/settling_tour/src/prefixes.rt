@@ -39,8 +39,7 @@ fn tell_prefix(page: &Page, division: &Either, ranked: &Ranked<PlainTerm>, prefi
     live
 }
 
-// The limits that the division sets for the variables of a prefix, and none for any other. `tour` has the same function:
-// a library between the two programs for this one would be no plainer.
+// The limits that the division sets for the variables of a prefix, and none for any other.
 fn limits_of_prefix(division: &Either, ranked: &Ranked<PlainTerm>, prefix: &[u8]) -> [Limits; 64] {
     let mut table = limits_by(division, ranked, 2);
     for limits in table.iter_mut() {

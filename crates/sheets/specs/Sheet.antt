@@ -1,14 +1,19 @@
 -- What makes a sheet, over what its places show. Assumes nothing.
-use Rattle.std.specs.Prelude.{◌≡◌, ℕ, ◌-◌, ◌≤◌, Bool, List, ◌++◌, length, take, replicate}
+use Rattle.std.specs.Prelude.{◌≡◌, ℕ, ◌-◌, ◌<◌, ◌≤◌, Bool, List, ◌++◌, length, take, replicate, ◌≢◌}
 use Rattle.std.specs.List.{range_with_len}
 use Rattle.elements.specs.Element.{Shown, blank}
 use Rattle.orderings.specs.Order.{VariableCount, IsOrdering}
+use Rattle.orderings.specs.Fit.{Fit}
 use Rattle.orderings.specs.Rows.{row, Rows}
 
 -- how many places a table may have
 pub record PlaceCount (places : ℕ) : Type 0 where
   pub some : 1 ≤ places
   pub most : places ≤ 64
+
+-- the row at place p fits, and stands at no place before it
+abbrev pub IsNew : (ℕ → Bool) → ℕ → List Shown → ℕ → Type 0
+IsNew admits n rows p = Fit admits n (row rows p) × ((k : ℕ) → k < p → row rows k ≢ row rows p)
 
 -- n, a row count, a table and order bytes make a sheet of a kind: the rows stand first, and then only blanks
 pub record Makes (admits : ℕ → Bool) (n count : ℕ) (table : List Shown) (order : List ℕ) : Type 0 where

@@ -4,7 +4,7 @@ ghost use Rattle.std.specs.List.{ContainsAt as Has};
 ghost use Rattle.elements.specs.Element.{blank as nothing};
 ghost use Rattle.orderings.specs.Rows.{row as place, Rows};
 ghost use Rattle.orderings.specs.declared.refusals.Refusal.TheVariants.{NotASheet};
-ghost use Rattle.sheets.specs.Sheet.{PlaceCount};
+ghost use Rattle.sheets.specs.Sheet.{PlaceCount, IsNew};
 ghost use Rattle.sheets.specs.Book.{opened, HasBar};
 ghost use Rattle.sheets.specs.Read.{Stands, book, ABookFixesItsSheet};
 
@@ -32,16 +32,19 @@ pub fn place_of<E: Element>(rows: &[E], element: &E) -> Option<usize>
     rows.iter().position(|row| same(row, element))
 }
 
+// Whether the row of a place fits, and stands at no place before it.
+fn is_new<E: Element>(rows: &[E], p: usize, n: u8) -> bool
+    requires { p < length rows.now }
+    ensures { Decides result (IsNew E.Element.admitted n (map E.Element.shown rows.now) p) }
+{
+    is_fit(&rows[p], n) && place_of(&rows[..p], &rows[p]).is_none()
+}
+
 // Whether the elements can be the rows of a sheet of n variables.
 pub fn are_rows<E: Element>(rows: &[E], n: u8) -> bool
     ensures { Decides result (Rows E.Element.admitted n (map E.Element.shown rows.now)) }
 {
-    for (p, row) in rows.iter().enumerate() {
-        if !is_fit(row, n) || place_of(&rows[..p], row).is_some() {
-            return false;
-        }
-    }
-    true
+    (0..rows.len()).all(|p| is_new(rows, p, n))
 }
 
 // Whether every place is blank.

@@ -35,7 +35,7 @@ pub fn parts_for<E: Element>(
     })
 }
 
-// Writes blanks to every place.
+// Writes blanks to every place. It is no `fill`, which asks that a clone cannot fail, and kinds of elements promise no such thing.
 fn clear<E: Element>(table: &mut [E])
     ensures len { length table.new ≡ length table.old }
     ensures blanks { (p : ℕ) → place (map E.Element.shown table.new) p ≡ nothing }

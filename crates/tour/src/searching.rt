@@ -45,8 +45,7 @@ fn tell_search<D: Division>(
     }
 }
 
-// The limits that the division sets for the variables of a prefix, and none for any other. `settling_tour` has the same function:
-// a library between the two programs for this one would be no plainer.
+// The limits that the division sets for the variables of a prefix, and none for any other.
 fn limits_of_prefix<D: Division>(
     division: &D,
     ranked: &Ranked<PlainTerm>,

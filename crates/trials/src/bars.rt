@@ -5,8 +5,6 @@ use divisions::{Division, Janet, JanetLike, numbered};
 use elements::{Element, PlainTerm};
 use std::test::Fail;
 
-const DOWN: [u8; 8] = [3, 2, 1, 0, 0, 0, 0, 0];
-
 // The gaps of variables 1, 2 and 3 at a place, 0 for none.
 fn gaps<E: Element>(ranked: &Ranked<E>, place: usize) -> [u16; 3] {
     [1, 2, 3].map(|variable| ranked.gap(place, variable).unwrap_or(0))
@@ -22,7 +20,7 @@ fn non_multiplicative_powers_of_six_terms(rt: HostRuntime) {
     let rows = six();
     let ranked = Ranked {
         rows: &rows,
-        order: &DOWN,
+        order: &FALLING,
     };
     assert_eq!(rt; gaps(&ranked, 0), [0, 1, 2]);
     assert_eq!(rt; gaps(&ranked, 1), [0, 3, 2]);
@@ -37,7 +35,7 @@ fn bars_of_six_terms(rt: HostRuntime) {
     let rows = six();
     let ranked = Ranked {
         rows: &rows,
-        order: &DOWN,
+        order: &FALLING,
     };
     assert_eq!(rt; numbers(&ranked, 0), [1, 1, 1]);
     assert_eq!(rt; numbers(&ranked, 1), [2, 2, 1]);
@@ -52,14 +50,14 @@ fn a_set_and_its_completion(rt: HostRuntime) {
     let rows = [term(3, 1, 1), term(5, 2, 1)];
     let less = Ranked {
         rows: &rows,
-        order: &DOWN,
+        order: &FALLING,
     };
     assert_eq!(rt; gaps(&less, 0), [0, 1, 0]);
     assert_eq!(rt; gaps(&less, 1), [0, 0, 0]);
     let completed = [term(3, 1, 1), term(3, 2, 1), term(5, 2, 1)];
     let more = Ranked {
         rows: &completed,
-        order: &DOWN,
+        order: &FALLING,
     };
     assert_eq!(rt; gaps(&more, 0), [0, 1, 0]);
     assert_eq!(rt; gaps(&more, 1), [2, 0, 0]);
@@ -77,7 +75,7 @@ fn bars_of_five_terms(rt: HostRuntime) {
     ];
     let ranked = Ranked {
         rows: &rows,
-        order: &DOWN,
+        order: &FALLING,
     };
     assert_eq!(rt; numbers(&ranked, 0), [1, 1, 1]);
     assert_eq!(rt; numbers(&ranked, 1), [2, 1, 1]);
@@ -96,7 +94,7 @@ fn multiplicative_variables(rt: HostRuntime) {
     let rows = [term(3, 0, 0), term(0, 3, 0), term(4, 1, 1), term(0, 0, 2)];
     let ranked = Ranked {
         rows: &rows,
-        order: &DOWN,
+        order: &FALLING,
     };
     assert_eq!(rt; multiplicative(&ranked, 0), [true, false, false]);
     assert_eq!(rt; multiplicative(&ranked, 1), [true, true, false]);
@@ -122,7 +120,7 @@ fn limits_by_number(rt: HostRuntime) -> Result<(), Fail> {
     let rows = six();
     let ranked = Ranked {
         rows: &rows,
-        order: &DOWN,
+        order: &FALLING,
     };
     assert_eq!(rt; Janet.limit(&ranked, 1, 2), Some(1));
     assert_eq!(rt; JanetLike.limit(&ranked, 1, 2), Some(3));

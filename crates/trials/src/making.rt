@@ -4,6 +4,9 @@ use sheets::opening::open;
 use sheets::parts::*;
 use std::test::Fail;
 
+// The ordering 3,2,1.
+pub(crate) const FALLING: [u8; 8] = [3, 2, 1, 0, 0, 0, 0, 0];
+
 // The term with these exponents of x1, x2 and x3.
 pub(crate) fn term(x1: u16, x2: u16, x3: u16) -> PlainTerm {
     <PlainTerm as Element>::make(0, [x1, x2, x3, 0, 0, 0, 0, 0])

@@ -11,8 +11,6 @@ use sheets::parts::*;
 use std::process::Abort;
 use std::test::Fail;
 
-const DOWN: [u8; 8] = [3, 2, 1, 0, 0, 0, 0, 0];
-
 // A sheet of three variables with these rows.
 fn sheet(
     rt: &(impl Abort + AllocGlobal),
@@ -51,9 +49,9 @@ fn short(element: PlainTerm, variable: u8) -> Verdict<PlainTerm> {
 fn six_terms(rt: HostRuntime) -> Result<(), Fail> {
     let first = term(5, 0, 0);
     let mut sheet = sheet(&rt, &six())?;
-    assert_eq!(rt; sheet.weigh(&JanetLike, &DOWN), Ok(complete(first)));
-    assert_eq!(rt; sheet.weigh(&Janet, &DOWN), Ok(short(first, 3)));
-    assert!(rt; sheet.arrange(&DOWN).is_ok());
+    assert_eq!(rt; sheet.weigh(&JanetLike, &FALLING), Ok(complete(first)));
+    assert_eq!(rt; sheet.weigh(&Janet, &FALLING), Ok(short(first, 3)));
+    assert!(rt; sheet.arrange(&FALLING).is_ok());
     assert_eq!(rt; sheet.verdict(&JanetLike), Ok(complete(first)));
     assert_eq!(rt; sheet.verdict(&Janet), Ok(short(first, 3)));
     Ok(())
@@ -62,14 +60,20 @@ fn six_terms(rt: HostRuntime) -> Result<(), Fail> {
 #[test]
 fn a_set_and_its_completion(rt: HostRuntime) -> Result<(), Fail> {
     let less = sheet(&rt, &[term(3, 1, 1), term(5, 2, 1)])?;
-    assert_eq!(rt; less.weigh(&JanetLike, &DOWN), Ok(short(term(3, 1, 1), 2)));
+    assert_eq!(rt;
+        less.weigh(&JanetLike, &FALLING),
+        Ok(short(term(3, 1, 1), 2))
+    );
     let more = sheet(&rt, &[term(3, 1, 1), term(3, 2, 1), term(5, 2, 1)])?;
-    assert_eq!(rt; more.weigh(&JanetLike, &DOWN), Ok(complete(term(3, 1, 1))));
+    assert_eq!(rt;
+        more.weigh(&JanetLike, &FALLING),
+        Ok(complete(term(3, 1, 1)))
+    );
     let four = sheet(
         &rt,
         &[term(3, 0, 0), term(0, 3, 0), term(4, 1, 1), term(0, 0, 2)],
     )?;
-    assert_eq!(rt; four.weigh(&Janet, &DOWN), Ok(short(term(3, 0, 0), 2)));
+    assert_eq!(rt; four.weigh(&Janet, &FALLING), Ok(short(term(3, 0, 0), 2)));
     Ok(())
 }
 
@@ -77,7 +81,7 @@ fn a_set_and_its_completion(rt: HostRuntime) -> Result<(), Fail> {
 fn no_verdict_on_an_empty_sheet(rt: HostRuntime) -> Result<(), Fail> {
     let empty = sheet(&rt, &[])?;
     assert_eq!(rt; empty.verdict(&Janet), Err(Refusal::NoRows));
-    assert_eq!(rt; empty.weigh(&Janet, &DOWN), Err(Refusal::NoRows));
+    assert_eq!(rt; empty.weigh(&Janet, &FALLING), Err(Refusal::NoRows));
     assert_eq!(rt; empty.weigh(&Janet, &[3, 2]), Err(Refusal::NotAnOrdering));
     assert!(rt; u8::from(Refusal::NoRows) == 12 && u8::from(Refusal::NotAnOrdering) == 11);
     Ok(())

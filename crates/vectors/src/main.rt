@@ -7,8 +7,8 @@ use std::{fs, io};
 fn main(rt: HostRuntime) -> io::Result<()> {
     let stored = fs::read(&rt, "logs")?;
     let mut rest = stored.as_slice();
-    // what is left is handed on as a part; that there are at most so many logs is what ends the loop
-    'logs: for number in 0..1000u32 {
+    // what is left is handed on as a part; there are no more logs than bytes
+    'logs: for number in 0..stored.len() {
         let [a, b, c, d, after @ ..] = rest else {
             break 'logs;
         };

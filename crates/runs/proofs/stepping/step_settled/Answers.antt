@@ -4,7 +4,7 @@ use Rattle.runs.specs.declared.requests.Request.TheVariants.{Insert, Withdraw, A
 use Rattle.runs.specs.declared.requests.NotGranted.TheVariants.{Refused}
 use Rattle.runs.specs.declared.requests.Grant.TheVariants.{Done, Place}
 use Rattle.runs.specs.declared.requests.Sheet.TheVariants.{Open, Settled}
-use Rattle.runs.proofs.Steps.{nothing_is_some, one_form, taken_step, untaken_step}
+use Rattle.runs.proofs.Steps.{nothing_is_some, one_some, taken_step, untaken_step}
 use Rattle.runs.proofs.Judged.{granted_not_refused}
 use Rattle.runs.proofs.stepping.step_settled.Goals as goal
 use Rattle.runs.proofs.stepping.step_settled.Goals.{in-Ok, in-Err}
@@ -13,7 +13,7 @@ pub returns-after-locate : goal.returns-after-locate
 returns-after-locate g c = elim c.match-locate.branch [
   | in-Ok w ↦ rw w.reply-is
       (taken_step g.E.Element.admitted g.E.Element.shown g.D.Division.meaning g.met.D.Division.lawful (Settled c.args.sheet) (Settled c.args.sheet) (Settled c.args.sheet) c.args.request.now (Locate c.in-Locate.e)
-      (Ok (Place w.in-Ok.place)) _ refl c.in-Locate.is (ap (answer (λ p. p ∷ [])) (sym w.in-Ok.is)) tt c.locate.ensures (λ _ _ _. refl) (λ f e. one_form e))
+      (Ok (Place w.in-Ok.place)) _ refl c.in-Locate.is (ap (answer (λ p. p ∷ [])) (sym w.in-Ok.is)) tt c.locate.ensures (λ _ _ _. refl) (λ f e. one_some e))
   | in-Err w ↦ rw (w.reply-is, w.from.ensures)
       (taken_step g.E.Element.admitted g.E.Element.shown g.D.Division.meaning g.met.D.Division.lawful (Settled c.args.sheet) (Settled c.args.sheet) (Settled c.args.sheet) c.args.request.now (Locate c.in-Locate.e)
       (Err (Refused w.in-Err.why)) _ refl c.in-Locate.is (ap (answer (λ p. p ∷ [])) (sym w.in-Err.is)) tt c.locate.ensures (λ _ _ _. refl) (λ f e. absurd (nothing_is_some e)))
@@ -22,7 +22,7 @@ returns-after-locate g c = elim c.match-locate.branch [
 pub returns-in-Ok-reopen : goal.returns-in-Ok-reopen
 returns-in-Ok-reopen g c =
     taken_step g.E.Element.admitted g.E.Element.shown g.D.Division.meaning g.met.D.Division.lawful (Settled c.args.sheet) (Settled c.args.sheet) (Open c.in-Ok-reopen.open) c.args.request.now Reopen
-    (Ok Done) _ refl c.in-Reopen.is refl tt c.in-Ok-reopen.ensures.step (λ r vs e. absurd (granted_not_refused e)) (λ f e. one_form e)
+    (Ok Done) _ refl c.in-Reopen.is refl tt c.in-Ok-reopen.ensures.step (λ r vs e. absurd (granted_not_refused e)) (λ f e. one_some e)
 
 pub returns-in-Err-reopen : goal.returns-in-Err-reopen
 returns-in-Err-reopen g c =

@@ -3,7 +3,7 @@ use Rattle.cones.proofs.holding.Limited.cone_of.Goals as goal
 
 pub returns : goal.returns
 returns g c = record {
-  first = rw c.of.ensures at c.place_of.ensures;
+  first = rw c.of.ensures at c.cone_of_shape.ensures;
   alone = cones_are_disjoint;
   greatest = the_cone_is_of_the_greatest_divisor;
 }

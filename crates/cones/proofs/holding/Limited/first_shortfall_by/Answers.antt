@@ -12,9 +12,9 @@ loop-variable-preserved g c =
     let p = c.loop-place.place in
     let v = c.loop-variable.variable in
     below_more _ _ c.loop-variable.invariant (elim c.match-limit_of.branch [
-      | in-Some+else-falls_short w ↦ no_shortfall shown c.args.self.now.n rows table p _ _ c.loop-place-test.true c.row-item.is c.lent_limits-limited.ensures
+      | in-Some+else-falls_short w ↦ no_shortfall shown c.args.self.now.n rows table p _ _ c.loop-place-test.true c.row-item.is c.lent_limits-limits.ensures
           v w.in-Some.power _ _ (omega arith) (omega arith) c.limit_of.ensures w.in-Some.is w.falls_short.ensures w.if-falls_short.false
-      | in_default w ↦ unlimited c.args.self.now.n (map shown rows) table p v _ _ c.lent_limits-limited.ensures c.limit_of.ensures w.in_default.is
+      | in_default w ↦ unlimited c.args.self.now.n (map shown rows) table p v _ _ c.lent_limits-limits.ensures c.limit_of.ensures w.in_default.is
     ])
 
 pub loop-place-preserved : goal.loop-place-preserved
@@ -27,16 +27,16 @@ loop-place-preserved g c =
     below_more _ _ c.loop-place.invariant (λ x m short. elim c.loop-variable-test.branch [
       | else-loop-variable-test w ↦ c.loop-variable.invariant x (omega (arith, w.loop-variable-test.false, short.high)) m short
       | then-loop-variable-test+else-variable-variable-end w ↦ below_more _ _ c.loop-variable.invariant (elim w.match-limit_of.branch [
-        | in-Some+else-falls_short y ↦ no_shortfall shown c.args.self.now.n rows table p _ _ c.loop-place-test.true c.row-item.is c.lent_limits-limited.ensures
+        | in-Some+else-falls_short y ↦ no_shortfall shown c.args.self.now.n rows table p _ _ c.loop-place-test.true c.row-item.is c.lent_limits-limits.ensures
             v y.in-Some.power _ _ (omega arith) (omega (arith, w.loop-variable-test.true)) w.limit_of.ensures y.in-Some.is y.falls_short.ensures y.if-falls_short.false
-        | in_default y ↦ unlimited c.args.self.now.n (map shown rows) table p v _ _ c.lent_limits-limited.ensures w.limit_of.ensures y.in_default.is
+        | in_default y ↦ unlimited c.args.self.now.n (map shown rows) table p v _ _ c.lent_limits-limits.ensures w.limit_of.ensures y.in_default.is
       ]) x (omega (arith, w.loop-variable-test.true, short.high)) m short
     ])
 
 pub returns-then-falls_short : goal.returns-then-falls_short
 returns-then-falls_short g c = record {
   shortfall = shortfall_from g.E.Element.shown c.args.self.now.n c.args.self.now.rows.now c.args.self.now.limits.now c.loop-place.place _ _
-      c.loop-place-test.true c.row-item.is c.lent_limits-limited.ensures c.loop-variable.variable c.in-Some.power _ _
+      c.loop-place-test.true c.row-item.is c.lent_limits-limits.ensures c.loop-variable.variable c.in-Some.power _ _
       (omega arith) (omega arith) c.limit_of.ensures c.in-Some.is c.falls_short.ensures c.if-falls_short.true;
   none_lower = λ q x k less. c.loop-place.invariant q less x k;
   none_before = λ x k less. c.loop-variable.invariant x less k;

@@ -3,7 +3,7 @@ use Rattle.std.proofs.lemmas.Iterator.{IsFirst-from_position, YieldsList-from_sl
 use Rattle.std.proofs.lemmas.Iterator.Consumers.{YieldsList-from_enumerate}
 use Rattle.elements.specs.Element.{Shown}
 use Rattle.cones.proofs.Reading.{Holding, cone_found}
-use Rattle.cones.proofs.holding.Limited.place_of.Goals as goal
+use Rattle.cones.proofs.holding.Limited.cone_of_shape.Goals as goal
 
 pub returns : goal.returns
 returns g c =
