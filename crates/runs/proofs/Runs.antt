@@ -1,6 +1,6 @@
 -- Runs: the law over every run, and a run that grows by one call. Assumes nothing.
 use Rattle.std.proofs.Common.{◌≡◌, ℕ, ◌+◌, ◌<◌, ◌≤◌, Bool, List, [], ◌∷◌, ◌++◌, map, length, get_or, take, IsErrAnd, Ok, Err, vec_len, Result, sym, refl, ap, ◌∙◌, subst, inl, inr}
-use Rattle.std.proofs.lemmas.List.{map_more, map_push, take_all}
+use Rattle.std.proofs.lemmas.List.{map_more, map_push, take_all, take_more}
 use Rattle.elements.specs.Element.{Shown}
 use Rattle.orderings.specs.Answer.{Answer, granted, refused}
 use Rattle.orderings.proofs.Judging.{Hold}
@@ -17,7 +17,7 @@ use Rattle.runs.specs.declared.requests.Request.TheVariants.{Insert, Withdraw, A
 use Rattle.runs.specs.Runs.{Run, over, next, LawfulCall, LawfulCalls, Sound, RunLaw, EveryRunKeepsTheLaw}
 use Rattle.runs.specs.declared.requests.Sheet.{Sheet}
 use Rattle.runs.specs.declared.requests.Sheet.TheVariants.{Open}
-use Rattle.runs.specs.Replies.{Reply, Replays, parts_of, book_of, call_of, answer_of, Ran}
+use Rattle.runs.specs.Replies.{Reply, Replays, parts_of, book_of, call_of, answer_of, HasItsForm, HaveTheirForms, Ran}
 use Rattle.runs.proofs.Judged.{granted_not_refused, refused_or_held}
 use Rattle.runs.proofs.Sound.{a_fresh_book_is_sound, every_call_keeps_books_sound}
 use Rattle.runs.proofs.Laws.{a_sound_book_keeps_the_law}
@@ -98,8 +98,8 @@ pub ran_by : {E D : Type 0} (admits : ℕ → Bool) (shown : E → Shown) (meani
     (before : Parts E) (calls : List (Request E D)) (start : OpenSheet E) (sheet : Sheet E D) (replies : List (Reply E)) →
     Opens admits shown before (Ok start) → Stands admits shown (parts_of sheet) →
     Run (book_of admits shown meaning (Open start)) (map (call_of shown meaning) calls) (map (answer_of shown) replies) (book_of admits shown meaning sheet) →
-    Ran admits shown meaning before calls sheet replies
-ran_by {E} {D} admits shown meaning law before calls start sheet replies opens st run =
+    HaveTheirForms shown meaning calls replies → Ran admits shown meaning before calls sheet replies
+ran_by {E} {D} admits shown meaning law before calls start sheet replies opens st run forms =
     let asked = open_asks before.header.variables (vec_len before.table) (vec_len before.order) in
     let begun = fresh admits before.header.variables (vec_len before.table) in
     let held : Hold asked = elim (refused_or_held (λ r. refused r []) (λ a. a ≡ granted []) asked (granted []) opens.answered) [
@@ -114,7 +114,31 @@ ran_by {E} {D} admits shown meaning law before calls start sheet replies opens s
       run = whole;
       law = every_run_keeps_the_law begun (book_of admits shown meaning sheet) (map (call_of shown meaning) calls) (map (answer_of shown) replies)
           (a_fresh_book_is_sound admits before.header.variables (vec_len before.table) held.0 held.1.0) (lawful_calls shown meaning law calls) whole;
+      forms = forms;
     }
+
+-- one reply more that has the form of its call
+module _ {E D : Type 0} (shown : E → Shown) (meaning : D → Meaning) where
+  forms_push : (ks : List (Request E D)) (rs : List (Reply E)) (k : Request E D) (r : Reply E) → HaveTheirForms shown meaning ks rs → HasItsForm shown meaning k r →
+      HaveTheirForms shown meaning (ks ++ k ∷ []) (rs ++ r ∷ [])
+  forms_push [] [] k r t h = (h, tt)
+  forms_push [] (y ∷ ys) k r t h = absurd t
+  forms_push (x ∷ xs) [] k r t h = absurd t
+  forms_push (x ∷ xs) (y ∷ ys) k r t h = (t.0, forms_push xs ys k r t.1 h)
+
+  pub forms_more : (ks : List (Request E D)) (i : ℕ) (k : Request E D) (rs vs : List (Reply E)) (r : Reply E) → i < length ks → k ≡ get_or ks i k → vs ≡ rs ++ r ∷ [] →
+      HaveTheirForms shown meaning (take i ks) rs → HasItsForm shown meaning k r → HaveTheirForms shown meaning (take (i + 1) ks) vs
+  forms_more ks i k rs vs r l e f t h =
+      let p : take i ks ++ k ∷ [] ≡ take (i + 1) ks = ap (λ (x : Request E D). take i ks ++ x ∷ []) e ∙ sym (take_more ks i k l) in
+      let P : List (Request E D) → Type 0 = λ xs. HaveTheirForms shown meaning xs vs in
+      let Q : List (Reply E) → Type 0 = λ ys. HaveTheirForms shown meaning (take i ks ++ k ∷ []) ys in
+      subst P p (subst Q (sym f) (forms_push (take i ks) rs k r t h))
+
+  pub forms_start : (rs : List (Reply E)) → rs ≡ [] → HaveTheirForms shown meaning [] rs
+  forms_start rs e = subst (λ (ys : List (Reply E)). HaveTheirForms shown meaning [] ys) (sym e) tt
+
+  pub forms_end : (ks : List (Request E D)) (i : ℕ) (rs : List (Reply E)) → length ks ≤ i → HaveTheirForms shown meaning (take i ks) rs → HaveTheirForms shown meaning ks rs
+  forms_end ks i rs l t = subst (λ (xs : List (Request E D)). HaveTheirForms shown meaning xs rs) (take_all i ks l) t
 
 -- memory ran out
 pub out_of_memory : {E D : Type 0} (admits : ℕ → Bool) (shown : E → Shown) (meaning : D → Meaning) (before : Parts E) (calls : List (Request E D)) (r : Result (Replayed E D) (NotReplayed E)) →

@@ -93,6 +93,18 @@ asked_form (settle d) = settles
 asked_form (locate e) = place
 asked_form reopen = done
 
+module _ {E D : Type 0} (shown : E → Shown) (meaning : D → Meaning) where
+  -- a granted reply has the form of its call
+  abbrev pub HasItsForm : Request E D → Reply E → Type 0
+  HasItsForm request reply = (f : Form) → form_of reply ≡ Some f → f ≡ asked_form (call_of shown meaning request)
+
+  -- so has each of a list of replies
+  abbrev pub HaveTheirForms : List (Request E D) → List (Reply E) → Type 0
+  HaveTheirForms [] [] = Unit {0}
+  HaveTheirForms [] (reply ∷ replies) = ⊥
+  HaveTheirForms (request ∷ requests) [] = ⊥
+  HaveTheirForms (request ∷ requests) (reply ∷ replies) = HasItsForm request reply × HaveTheirForms requests replies
+
 module _ {E D : Type 0} (admits : ℕ → Bool) (shown : E → Shown) (meaning : D → Meaning) where
   abbrev pub book_of : Sheet E D → Book
   book_of s = book admits shown (state_of meaning s) (parts_of s)
@@ -118,6 +130,7 @@ module _ {E D : Type 0} (admits : ℕ → Bool) (shown : E → Shown) (meaning :
     pub stands : Stands admits shown (parts_of sheet)
     pub run : Run (fresh admits before.header.variables (vec_len before.table)) (map (call_of shown meaning) calls) (map (answer_of shown) replies) (book_of sheet)
     pub law : RunLaw (fresh admits before.header.variables (vec_len before.table)) (map (call_of shown meaning) calls) (map (answer_of shown) replies) (book_of sheet)
+    pub forms : HaveTheirForms shown meaning calls replies
 
   -- what a list of calls came to: they ran, or the opening was refused, or memory ran out
   abbrev pub Replays : Parts E → List (Request E D) → Result (Replayed E D) (NotReplayed E) → Type 0
