@@ -1,30 +1,32 @@
 -- The commands of a log are a run of lawful calls. Assumes nothing.
-use Rattle.std.proofs.Common.{ℕ, List, [], ◌∷◌}
+use Rattle.std.proofs.Common.{ℕ, List, [], ◌∷◌, refl, inl, inr}
 use Rattle.orderings.specs.Answer.{Answer}
 use Rattle.sheets.specs.Book.{Book, Call}
 use Rattle.runs.specs.Runs.{Run, over, next, LawfulCalls}
 use Rattle.runs.proofs.Runs.{every_run_keeps_the_law}
-use Rattle.logs.specs.Session.{Commanded, untaken, undivided, called, Entry, Through, none, more}
+use Rattle.commands.specs.Log.{Reads, command}
+use Rattle.logs.specs.Session.{Commanded, untaken, undivided, called, Entry, entry, Through, none, more, Make, nothing, passed_over, called_for}
 use Rattle.logs.specs.Laws.{EveryLogIsARunUnderTheLaw}
 use Rattle.logs.proofs.Called.{a_command_calls_lawfully}
 
--- a run of lawful calls from one book to another
-abbrev Ran : Book → Book → Type 0
-Ran b c = (calls : List Call) × (answers : List Answer) × LawfulCalls calls × Run b calls answers c
+-- a run from one book to another of the calls that the commands of a log make
+abbrev Ran : Book → Book → List ℕ → List Entry → Type 0
+Ran b c log entries = (calls : List Call) × (answers : List Answer) × Make log entries calls answers × LawfulCalls calls × Run b calls answers c
 
 -- a command before a run: its call, or none where it is refused by 3 or 4
-command_ran : (b c d : Book) (code : ℕ) (operands : List ℕ) (told : Answer) → Commanded b code operands told c → Ran c d → Ran b d
-command_ran b c d code operands told (untaken x) ran = ran
-command_ran b c d code operands told (undivided t x) ran = ran
-command_ran b c d code operands told (called {call = call} t x answered follows) (calls, answers, laws, run) =
-    (call ∷ calls, told ∷ answers, (a_command_calls_lawfully code operands call x, laws), next answered follows run)
+command_ran : (b c d : Book) (place code : ℕ) (log operands rest : List ℕ) (told : Answer) (entries : List Entry) → Reads log (command code operands rest) →
+    Commanded b code operands told c → Ran c d rest entries → Ran b d log (entry place code told ∷ entries)
+command_ran b c d place code log operands rest told entries reads (untaken x) (calls, answers, made, laws, run) = (calls, answers, passed_over reads (inl refl) made, laws, run)
+command_ran b c d place code log operands rest told entries reads (undivided t x) (calls, answers, made, laws, run) = (calls, answers, passed_over reads (inr refl) made, laws, run)
+command_ran b c d place code log operands rest told entries reads (called {call = call} t x answered follows) (calls, answers, made, laws, run) =
+    (call ∷ calls, told ∷ answers, called_for reads x made, (a_command_calls_lawfully code operands call x, laws), next answered follows run)
 
-log_ran : (b c : Book) (place end : ℕ) (log left : List ℕ) (entries : List Entry) → Through b place log entries c end left → Ran b c
-log_ran b c place end log left entries none = ([], [], tt, over)
-log_ran b c place end log left entries (more {c = d} {code = code} {operands = operands} {told = told} reads does through) =
-    command_ran b d c code operands told does (log_ran d c _ end _ left _ through)
+log_ran : (b c : Book) (place end : ℕ) (log left : List ℕ) (entries : List Entry) → Through b place log entries c end left → Ran b c log entries
+log_ran b c place end log left entries none = ([], [], nothing, tt, over)
+log_ran b c place end log left _ (more {c = d} {code = code} {operands = operands} {rest = rest} {told = told} {entries = entries} reads does through) =
+    command_ran b d c place code log operands rest told entries reads does (log_ran d c _ end rest left entries through)
 
 pub every_log_is_a_run_under_the_law : EveryLogIsARunUnderTheLaw
 every_log_is_a_run_under_the_law b c place end log left entries sound through =
-    let (calls, answers, laws, run) = log_ran b c place end log left entries through in
-    (calls, answers, laws, run, every_run_keeps_the_law b c calls answers sound laws run)
+    let (calls, answers, made, laws, run) = log_ran b c place end log left entries through in
+    (calls, answers, made, laws, run, every_run_keeps_the_law b c calls answers sound laws run)

@@ -1,5 +1,5 @@
 -- What commands do to a book, and the lines of a log. Assumes nothing.
-use Rattle.std.specs.Prelude.{ℕ, ◌+◌, ◌≤◌, List, [], ◌∷◌, ◌++◌, length, Some, None, Option}
+use Rattle.std.specs.Prelude.{◌≡◌, ℕ, ◌+◌, ◌≤◌, ◌⊎◌, List, [], ◌∷◌, ◌++◌, length, Some, None, Option}
 use Rattle.std.specs.Option.{option_map}
 use Rattle.orderings.specs.Answer.{Answer, refused}
 use Rattle.divisions.specs.declared.Janet.{Janet}
@@ -53,6 +53,16 @@ pub data Through : Book → ℕ → List ℕ → List Entry → Book → ℕ →
   more : {b c d : Book} {place end code : ℕ} {log operands rest left : List ℕ} {told : Answer} {entries : List Entry} →
       Reads log (command code operands rest) → Commanded b code operands told c → Through c (place + (1 + length operands)) rest entries d end left →
       Through b place log (entry place code told ∷ entries) d end left
+
+-- the calls that the commands of a log make, with their answers, in the order of the log: one of each command but those that are told 3 or 4
+pub data Make : List ℕ → List Entry → List Call → List Answer → Type 0 where
+  nothing : {log : List ℕ} → Make log [] [] []
+  passed_over : {log operands rest : List ℕ} {place code number : ℕ} {entries : List Entry} {calls : List Call} {answers : List Answer} →
+      Reads log (command code operands rest) → (number ≡ 3) ⊎ (number ≡ 4) → Make rest entries calls answers →
+      Make log (entry place code (refused number []) ∷ entries) calls answers
+  called_for : {log operands rest : List ℕ} {place code : ℕ} {told : Answer} {call : Call} {entries : List Entry} {calls : List Call} {answers : List Answer} →
+      Reads log (command code operands rest) → Calls code operands (Some call) → Make rest entries calls answers →
+      Make log (entry place code told ∷ entries) (call ∷ calls) (told ∷ answers)
 
 -- a log to its end, or to the first byte that begins no whole command, whose line is the last; with the place after the last whole command
 pub data Logged (b : Book) (place : ℕ) (log : List ℕ) : List Entry → ℕ → Type 0 where
