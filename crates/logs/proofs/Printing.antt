@@ -21,7 +21,7 @@ use Rattle.lines.specs.declared.lines.Line.{Line}
 use Rattle.lines.specs.Line.{told_words, granted_words, fault_words, line_text}
 use Rattle.lines.specs.Words.{spaced, hex}
 use Rattle.logs.specs.Session.{Calls, inserts, withdraws, arranges, judges, weighs, settles, locates, reopens, Commanded, untaken, undivided, called, entry, numbered_meaning}
-use Rattle.logs.specs.Told.{forms, values_words, entry_text, Decides, Performs}
+use Rattle.logs.specs.Told.{forms, values_words, entry_text, Requested, Performs}
 
 -- the line of a granted reply, whose form is that of its code
 pub granted_line : {E : Type 0} (shown : E → Shown) (place code n : ℕ) (reply : Reply E) (grant : Grant E) (told : Told) → reply ≡ Ok grant →
@@ -48,7 +48,7 @@ form_of_code code operands o call locates e = ap asked_form (sym (one_some e))
 form_of_code code operands o call reopens e = ap asked_form (sym (one_some e))
 
 -- what the session does not take
-pub faulty_line : {E : Type 0} (shown : E → Shown) (b : Book) (n place code seen : ℕ) (operands : List ℕ) (why : Untaken) → seen ≡ code → Decides shown b.state code operands (Err why) →
+pub faulty_line : {E : Type 0} (shown : E → Shown) (b : Book) (n place code seen : ℕ) (operands : List ℕ) (why : Untaken) → seen ≡ code → Requested shown b.state code operands (Err why) →
     (answer : Answer) × Commanded b code operands answer b × (spaced (fault_words (record { place = place; code = seen; cause = Session why })) ≡ entry_text n (entry place code answer))
 faulty_line shown b n place code seen operands WrongState e d = (refused 3 [], untaken d, ap (λ (c : ℕ). spaced (decimal place ∷ hex c ∷ codes "no" ∷ decimal 3 ∷ [])) e)
 faulty_line shown b n place code seen operands NoSuchDivision e d = (refused 4 [], undivided d.0 d.1, ap (λ (c : ℕ). spaced (decimal place ∷ hex c ∷ codes "no" ∷ decimal 4 ∷ [])) e)
@@ -56,7 +56,7 @@ faulty_line shown b n place code seen operands NoSuchDivision e d = (refused 4 [
 -- a command whose call was made
 pub called_line : {E : Type 0} (admits : ℕ → Bool) (shown : E → Shown) (before after : Sheet E (OneOf Janet JanetLike)) (n place code seen : ℕ) (operands : List ℕ)
     (request : Request E (OneOf Janet JanetLike)) (reply : Reply E) (line : Line) → seen ≡ code →
-    Decides shown (state_of numbered_meaning before) code operands (Ok request) → Stepped admits shown numbered_meaning before request after reply →
+    Requested shown (state_of numbered_meaning before) code operands (Ok request) → Stepped admits shown numbered_meaning before request after reply →
     (((f : Form) → form_of reply ≡ Some f → get_or forms (seen - 1) done ≡ f) → line_text line ≡ entry_text n (entry place seen (answer_of shown reply))) →
     Performs admits shown before n place code operands after line
 called_line admits shown before after n place code seen operands request reply line same decided s text =

@@ -18,10 +18,10 @@ use Rattle.lines.specs.Words.{spaced, hex}
 use Rattle.logs.specs.Session.{numbered_meaning, TakesCode, Calls, Commanded, Entry, entry, Logged}
 
 -- what the session decides: the call of the command, or that its state does not take it, or that its division byte is none
-abbrev pub Decides : {E : Type 0} → (E → Shown) → State → ℕ → List ℕ → Result (Request E (OneOf Janet JanetLike)) Untaken → Type 0
-Decides shown state code operands (Ok request) = TakesCode state code × Calls code operands (Some (call_of shown numbered_meaning request))
-Decides shown state code operands (Err WrongState) = TakesCode state code → ⊥
-Decides shown state code operands (Err NoSuchDivision) = TakesCode state code × Calls code operands None
+abbrev pub Requested : {E : Type 0} → (E → Shown) → State → ℕ → List ℕ → Result (Request E (OneOf Janet JanetLike)) Untaken → Type 0
+Requested shown state code operands (Ok request) = TakesCode state code × Calls code operands (Some (call_of shown numbered_meaning request))
+Requested shown state code operands (Err WrongState) = TakesCode state code → ⊥
+Requested shown state code operands (Err NoSuchDivision) = TakesCode state code × Calls code operands None
 
 -- the form of what each code is answered, the codes in their order
 abbrev pub forms : List Form

@@ -5,7 +5,7 @@ ghost use Rattle.commands.specs.Read.{code_of, operands_of};
 ghost use Rattle.runs.specs.Replies.{state_of};
 ghost use Rattle.lines.specs.declared.faults.Untaken.TheVariants.{NoSuchDivision};
 ghost use Rattle.logs.specs.Session.{numbered_meaning};
-ghost use Rattle.logs.specs.Told.{Decides};
+ghost use Rattle.logs.specs.Told.{Requested};
 
 use commands::{Command, element_of};
 use divisions::{Janet, JanetLike, OneOf, numbered};
@@ -25,7 +25,7 @@ pub fn request_of<'a, E: Element>(
     sheet: &Sheet<E, OneOf<Janet, JanetLike>>,
     command: &Command<'a>,
 ) -> Result<Request<'a, E, OneOf<Janet, JanetLike>>, Untaken>
-    ensures { Decides E.Element.shown (state_of numbered_meaning sheet.now) (code_of command.now) (operands_of command.now) result }
+    ensures { Requested E.Element.shown (state_of numbered_meaning sheet.now) (code_of command.now) (operands_of command.now) result }
 {
     match (sheet, command) {
         (Sheet::Open(_), Command::Insert(element)) => Ok(Request::Insert(element_of(element))),
