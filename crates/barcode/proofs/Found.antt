@@ -1,23 +1,15 @@
 -- What the code finds of bars. Assumes nothing.
-use Rattle.std.proofs.Common.{◌≡◌, ℕ, zero, suc, ◌-◌, ◌<◌, ◌≤◌, Bool, true, false, not, eqb, List, length, map, take, get_or, Some, None, Option, MatchOption, Decides, sym, refl, ap, ◌∙◌, inl, inr, arith}
+use Rattle.std.proofs.Common.{◌≡◌, ℕ, zero, suc, ◌-◌, ◌<◌, ◌≤◌, Bool, true, false, not, List, length, map, take, get_or, Some, None, Option, MatchOption, Decides, sym, refl, ap, ◌∙◌, inl, inr, arith}
 use Rattle.std.specs.Bool.{MatchBool}
-use Rattle.std.specs.Option.{option_eq}
 use Rattle.std.specs.List.{AllWithin, HoldsAt}
-use Rattle.std.proofs.lemmas.List.{get_or_past, get_or-map, length-map, get_or-take, length-take}
+use Rattle.std.proofs.lemmas.List.{get_or_past, get_or-map, length-map, get_or-take, length-take, length-take-le}
 use Rattle.std.proofs.lemmas.Bool.{cases_lt, cases_eq, cases_order, false≢true, and_left, and_right, and_from, not_from_true, not_from_false}
-use Rattle.std.proofs.lemmas.Bool.Decides.{Decides-like, Decides-eqb}
 use Rattle.elements.specs.Element.{Shown, exponent, blank}
-use Rattle.orderings.specs.Order.{at, Agree, DifferAt}
+use Rattle.orderings.specs.Order.{at, Agree, DifferAt, PartAt}
 use Rattle.orderings.specs.Rows.{row}
 use Rattle.barcode.specs.Bars.{position, SameBar, LowerBar, Rises, Star, same_bar, opens_bar}
-use Rattle.barcode.specs.Gap.{height, rise}
-use Rattle.barcode.proofs.Listed.{position_holds}
-use Rattle.barcode.proofs.Tested.{same_bar_decides, none_elsewhere, rise_some}
-
--- the code's test of a number that may be absent
-pub is_some_decides : (o : Option ℕ) (k : ℕ) → Decides (option_eq eqb o (Some k)) (o ≡ Some k)
-is_some_decides None k = (λ t. absurd (false≢true t), λ e. let z : ◌≡◌ {A = ℕ} 0 1 = cc in absurd (omega arith))
-is_some_decides (Some x) k = Decides-like (eqb x k) (λ e. ap Some e) (λ e. cc) (Decides-eqb x k)
+use Rattle.barcode.specs.Gap.{rise}
+use Rattle.barcode.proofs.Tested.{same_bar_decides, rise_some}
 
 module _ (order : List ℕ) (v : ℕ) (u w : Shown) where
   -- who agrees in the whole list agrees at every position
@@ -49,38 +41,25 @@ module _ (order : List ℕ) (v : ℕ) (u w : Shown) where
         ]
       ]
 
-  -- an exponent that decides a rise is that of v
-  pub heights : Rises order v u w → (height order v u ≡ exponent u v) × (height order v w ≡ exponent w v)
-  heights r = elim (cases_lt (position order v) (length order)) [
-    | inl l ↦ (let e = position_holds order v l in (ap (exponent u) e, ap (exponent w) e))
-    | inr l ↦ (let none = get_or_past order (position order v) 0 l in let low = rw none at r.smaller in absurd (omega (arith, low)))
-  ]
+-- what the code reads at position k of a list, and of the variables before it
+module _ (order : List ℕ) (k x : ℕ) (u w : Shown) (inside : k < length order) (read : x ≡ at order k) where
+  -- u and w part there exactly where they agree before, if they are of one family and w is above in the variable there
+  pub parts_told : (r : Bool) → u.family ≡ w.family → exponent u x < exponent w x →
+      MatchBool r (AllWithin (λ y. exponent u y ≡ exponent w y) (take k order) 0 (length (take k order)))
+      ((j : ℕ) × (j < length (take k order)) × HoldsAt (λ y. exponent u y ≡ exponent w y → ⊥) (take k order) j) → Decides r (PartAt order k u w)
+  parts_told true f low all = (
+    λ _. record { family = f; above = λ j l. rw (get_or-take k order j 0 l) at (all j 0 (omega arith) (omega (arith, l, length-take-le k order (omega arith)))); smaller = rw read at low },
+    λ _. refl,
+  )
+  parts_told false f low (j, l, differ) =
+      let before : j < k = omega (arith, l, length-take-le k order (omega arith)) in
+      (λ t. absurd (false≢true t), λ p. absurd (rw (get_or-take k order j 0 before) at (differ 0) (p.above j before)))
 
-  -- w does not rise where it is not above in v
-  pub not_above : (low high : ℕ) → low ≡ exponent u v → high ≡ exponent w v → high ≤ low → Rises order v u w → ⊥
-  not_above low high el eh l r = let h = heights r in omega (arith, r.smaller, h.0, h.1)
-
-  -- where it is above, it rises exactly where the first difference stands at the position of v
-  pub rises_told : (part : Option ℕ) (r : Bool) (low high : ℕ) → u.family ≡ w.family → MatchOption part (Agree order (length order) u w) (λ k. DifferAt order k u w) →
-      low ≡ exponent u v → high ≡ exponent w v → low < high → Decides r (part ≡ Some (position order v)) → Decides r (Rises order v u w)
-  rises_told part r low high f m el eh l told = Decides-like r (there part m) (apart part m) told
-    where
-      there : (part : Option ℕ) → MatchOption part (Agree order (length order) u w) (λ k. DifferAt order k u w) → part ≡ Some (position order v) → Rises order v u w
-      there part m at =
-          let d : DifferAt order (position order v) u w = rw at at m in
-          let e = position_holds order v d.inside in
-          record { family = f; above = d.above; smaller = rw e (omega (arith, el, eh)) }
-
-      apart : (part : Option ℕ) → MatchOption part (Agree order (length order) u w) (λ k. DifferAt order k u w) → Rises order v u w → part ≡ Some (position order v)
-      apart None a r = absurd (omega (arith, agree_all a (suc (position order v)) (position order v) (omega arith), r.smaller))
-      apart (Some k) d r = elim (cases_eq k (position order v)) [
-        | inl e ↦ ap Some e
-        | inr ne ↦ absurd (none_elsewhere order v u w k d ne r)
-      ]
-
-  -- how far it rises
-  pub rise_by : (low high : ℕ) → low ≡ exponent u v → high ≡ exponent w v → Rises order v u w → (low ≤ high) × (Some (high - low) ≡ rise order v u w)
-  rise_by low high el eh r = let h = heights r in (omega (arith, r.smaller, h.0, h.1), ap Some (omega (arith, h.0, h.1)) ∙ sym (rise_some order v u w r))
+  -- how far w rises at a variable that stands there
+  pub rise_by : (v low high : ℕ) → position order v ≡ k → low ≡ exponent u x → high ≡ exponent w x → PartAt order k u w → Some (high - low) ≡ rise order v u w
+  rise_by v low high here el eh p =
+      let r : Rises order v u w = rw (sym here) at p in
+      rw (el, eh, read, sym here) (sym (rise_some order v u w r))
 
 -- a row over the same bar before place q
 module _ (rows : List Shown) (order : List ℕ) (v q : ℕ) where

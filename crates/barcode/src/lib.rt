@@ -2,12 +2,12 @@
 #![tactic(auto)]
 
 ghost use Rattle.std.specs.Prelude.{◌≡◌, ℕ, ◌<◌, ◌≤◌, true, ◌&&◌, map, length, None, Decides};
-ghost use Rattle.orderings.specs.Order.{at, IsOrdering};
+ghost use Rattle.orderings.specs.Order.{at, IsOrdering, PartAt};
 ghost use Rattle.orderings.specs.Rows.{row as at_place};
-ghost use Rattle.barcode.specs.Bars.{position as position_in, SameBar, LowerBar, Rises, Star, bar_number, lower_bar, opens_bar, BarNumberCountsTheDifferentLowerBars};
+ghost use Rattle.barcode.specs.Bars.{position as position_in, SameBar, LowerBar, Star, bar_number, lower_bar, opens_bar, BarNumberCountsTheDifferentLowerBars};
 ghost use Rattle.barcode.specs.Gap.{rise as rise_of, gap as gap_of, IsGap};
 
-use elements::{Element, exponent_of};
+use elements::Element;
 use orderings::comparing::part_at;
 
 // The position of a variable in a list: the first at which it stands, or the length where it does not.
@@ -29,27 +29,33 @@ fn same_family<E: Element>(u: &E, w: &E) -> bool
     u.family() == w.family()
 }
 
-// Whether w is above u in a variable and agrees with it in every greater one.
-fn rises<E: Element>(u: &E, w: &E, order: &[u8], variable: u8) -> bool
-    ensures { Decides result (Rises order.now variable (E.Element.shown u.now) (E.Element.shown w.now)) }
+// Whether w is above u in the variable at a position of a list, agrees with it in those listed before, and is of the same family.
+fn rises<E: Element>(u: &E, w: &E, order: &[u8], here: usize) -> bool
+    ensures { Decides result (PartAt order.now here (E.Element.shown u.now) (E.Element.shown w.now)) }
 {
-    let low = exponent_of(&u.exponents(), variable);
-    let high = exponent_of(&w.exponents(), variable);
+    let Some(variable) = order.get(here) else {
+        return false;
+    };
+    let (low, high) = (u.exponent(*variable), w.exponent(*variable));
     // the cheapest test comes first
     if high <= low {
         return false;
     }
-    same_family(u, w) && part_at(u, w, order) == Some(position(order, variable))
+    same_family(u, w)
+        && order[..here]
+            .iter()
+            .all(|v| u.exponent(*v) == w.exponent(*v))
 }
 
-// How far w rises above u at a variable, where it counts for the gap there.
-fn rise<E: Element>(u: &E, w: &E, order: &[u8], variable: u8) -> Option<u16>
-    ensures { result ≡ rise_of order.now variable (E.Element.shown u.now) (E.Element.shown w.now) }
+// How far w rises above u at the position of a variable, where it counts for the gap there.
+fn rise<E: Element>(u: &E, w: &E, order: &[u8], here: usize) -> Option<u16>
+    ensures { (v : ℕ) → position_in order.now v ≡ here → result ≡ rise_of order.now v (E.Element.shown u.now) (E.Element.shown w.now) }
 {
-    if !rises(u, w, order, variable) {
+    if !rises(u, w, order, here) {
         return None;
     }
-    Some(exponent_of(&w.exponents(), variable) - exponent_of(&u.exponents(), variable))
+    let variable = *order.get(here)?;
+    Some(w.exponent(variable) - u.exponent(variable))
 }
 
 // Whether u and w lie over the same bar of a variable.
@@ -68,7 +74,7 @@ fn over_lower_bar<E: Element>(u: &E, w: &E, order: &[u8], variable: u8) -> bool
     same_family(u, w)
         && part_at(u, w, order).is_some_and(|k| {
             let v = order[k];
-            k <= here && exponent_of(&u.exponents(), v) < exponent_of(&w.exponents(), v)
+            k <= here && u.exponent(v) < w.exponent(v)
         })
 }
 
@@ -88,9 +94,10 @@ impl<E: Element> Ranked<'_, E> {
         ensures smallest { place < length self.now.rows.now → IsGap (map E.Element.shown self.now.rows.now) self.now.order.now (at_place (map E.Element.shown self.now.rows.now) place) variable result }
     {
         let (u, order) = (self.rows.get(place)?, self.order);
+        let here = position(order, variable);
         self.rows
             .iter()
-            .filter_map(|w| rise(u, w, order, variable))
+            .filter_map(|w| rise(u, w, order, here))
             .min()
     }
 
@@ -104,7 +111,8 @@ impl<E: Element> Ranked<'_, E> {
             return true;
         };
         let order = self.order;
-        !self.rows.iter().any(|w| rises(u, w, order, variable))
+        let here = position(order, variable);
+        !self.rows.iter().any(|w| rises(u, w, order, here))
     }
 
     // Whether no row before a place lies over the same bar of a variable.

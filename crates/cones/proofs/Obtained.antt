@@ -1,7 +1,8 @@
 -- The limits of a row in an array. Assumes nothing.
-use Rattle.std.proofs.Common.{◌≡◌, ℕ, zero, suc, ◌+◌, ◌<◌, ◌≤◌, List, length, get_or, None, Option, inl, inr, arith}
-use Rattle.std.proofs.lemmas.Bool.{cases_lt}
-use Rattle.cones.specs.Tables.{limit_in, LimitsFrom}
+use Rattle.std.proofs.Common.{◌≡◌, ℕ, zero, suc, ◌+◌, ◌<◌, ◌≤◌, List, length, get_or, set, replicate, None, Option, refl, ◌∙◌, inl, inr, arith}
+use Rattle.std.proofs.lemmas.List.{length-set, get_or-set_same, get_or-set_other, get_or-replicate, get_or_past}
+use Rattle.std.proofs.lemmas.Bool.{cases_lt, cases_eq}
+use Rattle.cones.specs.Tables.{limit_in, limits_at, LimitsFrom}
 use Rattle.cones.proofs.Reading.{limit_past}
 
 -- the limits of variables 1 to n stand at the places before these, and none at the others
@@ -25,3 +26,29 @@ limits_from ls n F eight h = record {
       | inl l ↦ (h k l).1 (omega arith)
       | inr l ↦ limit_past ls (suc k) (omega arith)
     ]
+
+-- the first k rows of a table have their limits, and the others none
+pub record Obtaining (n : ℕ) (F : ℕ → ℕ → Option ℕ) (k : ℕ) (table : List (List (Option ℕ))) : Type 0 where
+  pub long : length table ≡ 64
+  pub rows : (p : ℕ) → p < k → LimitsFrom n (F p) (limits_at table p)
+  pub past : (p : ℕ) → k ≤ p → limits_at table p ≡ replicate 8 None
+
+module _ (n : ℕ) (F : ℕ → ℕ → Option ℕ) where
+  pub obtaining_start : Obtaining n F 0 (replicate 64 (replicate 8 None))
+  obtaining_start = record { long = refl; rows = λ p l. absurd (omega arith); past = λ p l. none p }
+    where
+      none : (p : ℕ) → limits_at (replicate 64 (replicate 8 None)) p ≡ replicate 8 None
+      none p = elim (cases_lt p 64) [
+        | inl l ↦ get_or-replicate 64 p (replicate 8 None) (replicate 8 None) l
+        | inr l ↦ get_or_past (replicate 64 (replicate 8 None)) p (replicate 8 None) l
+      ]
+
+  pub obtaining_more : (k : ℕ) (table : List (List (Option ℕ))) (limits : List (Option ℕ)) → k < 64 → LimitsFrom n (F k) limits → Obtaining n F k table → Obtaining n F (k + 1) (set table k limits)
+  obtaining_more k table limits few own o = record {
+    long = length-set table k limits ∙ o.long;
+    rows = λ p l. elim (cases_eq p k) [
+      | inl e ↦ (let here = get_or-set_same table k limits (replicate 8 None) (omega (arith, o.long)) in rw (e, here) own)
+      | inr d ↦ rw (get_or-set_other table k p limits (replicate 8 None) d) (o.rows p (omega arith))
+    ];
+    past = λ p l. get_or-set_other table k p limits (replicate 8 None) (λ e. omega arith) ∙ o.past p (omega arith);
+  }

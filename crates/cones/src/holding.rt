@@ -1,5 +1,7 @@
 // Which cone holds an element.
-ghost use Rattle.std.specs.Prelude.{ℕ, ◌<◌, map, Decides, MatchOption};
+ghost use Rattle.std.specs.Prelude.{◌≡◌, ℕ, ◌+◌, ◌<◌, ◌≤◌, false, map, length, Some, Decides, MatchOption};
+ghost use Rattle.elements.specs.Element.{exponent};
+ghost use Rattle.orderings.specs.Rows.{row as row_at};
 ghost use Rattle.cones.specs.Cones.{Holds, InCone, ConesAreDisjoint, TheConeIsOfTheGreatestDivisor};
 ghost use Rattle.cones.specs.Tables.{limit_in, limits_of};
 
@@ -41,6 +43,28 @@ pub fn in_cone<E: Element>(row: &E, limits: &Limits, n: u8, element: &E) -> bool
 }
 
 impl<E: Element> Limited<'_, E> {
+    // The limit of a variable at the row of a place: none past the table, and where there is no such variable.
+    pub fn limit(&self, place: usize, variable: u8) -> Option<u16>
+        ensures { result ≡ limits_of self.now.limits.now place variable }
+    {
+        limit_of(lent_limits(self.limits, place), variable)
+    }
+
+    // Whether an element is within the limit of one variable at the row of a place: its exponent is below the row's and the limit together.
+    // At a place without a row none is.
+    pub fn is_within(&self, place: usize, element: &E, variable: u8) -> bool
+        ensures row { place < length self.now.rows.now → Decides result ((m : ℕ) → limits_of self.now.limits.now place variable ≡ Some m → exponent (E.Element.shown element.now) variable < exponent (row_at (map E.Element.shown self.now.rows.now) place) variable + m) }
+        ensures no_row { length self.now.rows.now ≤ place → result ≡ false }
+    {
+        let Some(row) = self.rows.get(place) else {
+            return false;
+        };
+        let least = u32::from(row.exponent(variable));
+        let given = u32::from(element.exponent(variable));
+        self.limit(place, variable)
+            .is_none_or(|most| given < least + u32::from(most))
+    }
+
     // Whether the cone of a place holds a shape.
     pub(crate) fn holds_at(&self, place: usize, shape: &Shape) -> bool
         ensures { Decides result (InCone self.now.n (map E.Element.shown self.now.rows.now) (limits_of self.now.limits.now) place (record { family = shape.now.family; exponents = shape.now.exponents })) }

@@ -1,5 +1,5 @@
 // Whether a division makes rows complete. The division is asked for each limit once; what judges is handed the limits.
-ghost use Rattle.std.specs.Prelude.{ℕ, ◌<◌, map, MatchOption};
+ghost use Rattle.std.specs.Prelude.{◌≡◌, ℕ, ◌<◌, ◌≤◌, map, length, replicate, None, MatchOption};
 ghost use Rattle.divisions.specs.Laws.{OnSheet};
 ghost use Rattle.cones.specs.Cones.{Complete, FirstShortfall};
 ghost use Rattle.cones.specs.Judged.{LawfulLimitsAreSeparated, JanetLikeCompletesWhatAnyDivisionCompletes};
@@ -31,16 +31,16 @@ fn limits_of_row<E: Element, D: Division>(
     })
 }
 
-// The limits that a division sets for variables 1 to n at each of 64 places, with a row or without one, each obtained once.
-// Other variables have none.
+// The limits that a division sets for variables 1 to n at each row of a sheet, each obtained once. No other variable and no other place has one.
 pub fn limits_by<E: Element, D: Division>(division: &D, ranked: &Ranked<E>, n: u8) -> [Limits; 64]
-    ensures { (p : ℕ) → p < 64 → LimitsFrom n (D.Division.meaning division.now (map E.Element.shown ranked.now.rows.now) ranked.now.order.now p) (limits_at result p) }
+    ensures rows { (p : ℕ) → p < 64 → p < length ranked.now.rows.now → LimitsFrom n (D.Division.meaning division.now (map E.Element.shown ranked.now.rows.now) ranked.now.order.now p) (limits_at result p) }
+    ensures past { (p : ℕ) → length ranked.now.rows.now ≤ p → limits_at result p ≡ replicate 8 None }
 {
-    array::from_fn(
-        |place| -> Limits
-            ensures { LimitsFrom n (D.Division.meaning division.entry.now (map E.Element.shown ranked.entry.now.rows.now) ranked.entry.now.order.now place) result }
-        { limits_of_row(division, ranked, place, n) },
-    )
+    let mut table = [[None; 8]; 64];
+    for place in 0..ranked.rows.len().min(64) {
+        table[place] = limits_of_row(division, ranked, place, n);
+    }
+    table
 }
 
 // The first shortfall of the rows of a sheet by a division under an ordering, or none where they are complete.

@@ -2,7 +2,7 @@
 #![tactic(auto)]
 
 ghost use Rattle.std.specs.Prelude.{◌≡◌, ℕ, ◌≤◌, Bool, true, ◌&&◌, ◌⊎◌, is_some, IfSome, Decides, MatchOption, ◌==◌, nat_le};
-ghost use Rattle.elements.specs.Element.{Shown, exponent, entry as entry_of, Divides, Variable, Overflows, power as to_the, product as multiplied, times, quotient as divided, blank as nothing};
+ghost use Rattle.elements.specs.Element.{Shown, exponent, Divides, Variable, Overflows, power as to_the, product as multiplied, times, quotient as divided, blank as nothing};
 ghost use Rattle.std.proofs.Common.{ap};
 
 use std::array;
@@ -22,6 +22,10 @@ pub trait Element: Copy + Clone {
 
     fn exponents(&self) -> [u16; 8]
         ensures { result ≡ (shown self.now).exponents };
+
+    // The exponent of a variable, which counts from 1: 0 where there is no such variable.
+    fn exponent(&self, variable: u8) -> u16
+        ensures { result ≡ exponent (shown self.now) variable };
 
     fn admits(family: u8) -> bool
         ensures { result ≡ admitted family };
@@ -62,6 +66,12 @@ impl<const LEAST: u8, const GREATEST: u8> Element for Term<LEAST, GREATEST> {
         self.exponents
     }
 
+    fn exponent(&self, variable: u8) -> u16 {
+        // at 0 the index wraps, and is past the end
+        let index = usize::from(variable).wrapping_sub(1);
+        self.exponents.get(index).copied().unwrap_or(0)
+    }
+
     fn admits(family: u8) -> bool {
         (LEAST..=GREATEST).contains(&family)
     }
@@ -78,16 +88,6 @@ pub fn blank<E: Element>() -> E
     ensures { E.Element.shown result ≡ nothing }
 {
     E::make(0, [0; 8])
-}
-
-// The exponent of a variable, which counts from 1: 0 where there is no such variable.
-pub fn exponent_of(exponents: &[u16; 8], variable: u8) -> u16
-    ensures { result ≡ entry_of exponents.now variable }
-{
-    (variable as usize)
-        .checked_sub(1)
-        .and_then(|index| exponents.get(index).copied())
-        .unwrap_or(0)
 }
 
 // Whether two elements are the same, by what they show. It is no `==`: to ask a kind for that would ask more of it than its laws need,

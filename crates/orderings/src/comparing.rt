@@ -8,7 +8,7 @@ ghost use Rattle.orderings.specs.Stands.{StandsAs};
 use crate::fitting::*;
 use crate::orders::*;
 use crate::refusals::*;
-use elements::{Element, exponent_of};
+use elements::Element;
 use std::cmp::Ordering;
 
 // How the first of two elements stands to the second. It is no `Ordering`, which would be no plainer: a term is not less than another,
@@ -49,10 +49,7 @@ impl From<Ordering> for Comparison {
 pub fn part_at<E: Element>(u: &E, w: &E, order: &[u8]) -> Option<usize>
     ensures { MatchOption result (Agree order.now (length order.now) (E.Element.shown u.now) (E.Element.shown w.now)) (λ k. DifferAt order.now k (E.Element.shown u.now) (E.Element.shown w.now)) }
 {
-    let (a, b) = (u.exponents(), w.exponents());
-    order
-        .iter()
-        .position(|v| exponent_of(&a, *v) != exponent_of(&b, *v))
+    order.iter().position(|v| u.exponent(*v) != w.exponent(*v))
 }
 
 // How u stands to w by family, and then by the exponents of the listed variables, the first listed first.
@@ -67,8 +64,7 @@ fn standing<E: Element>(u: &E, w: &E, order: &[u8]) -> Comparison
         None => Comparison::Same,
         Some(k) => {
             let v = order[k];
-            let exponents = exponent_of(&u.exponents(), v).cmp(&exponent_of(&w.exponents(), v));
-            Comparison::from(exponents)
+            Comparison::from(u.exponent(v).cmp(&w.exponent(v)))
         }
     }
 }

@@ -1,29 +1,22 @@
 -- A table of limits while entries come and go, and what it tells of a prefix. Assumes nothing.
-use Rattle.std.proofs.Common.{◌≡◌, ℕ, ◌<◌, ◌≤◌, Bool, cond, not, eqb, List, [], ◌∷◌, ◌++◌, length, replicate, is_some, Some, None, Decides, Option, sym, ap, ◌∙◌, inl, inr, arith, MatchOption}
+use Rattle.std.proofs.Common.{◌≡◌, ℕ, ◌<◌, ◌≤◌, Bool, cond, eqb, List, [], ◌∷◌, ◌++◌, length, replicate, None, Decides, Option, sym, ap, ◌∙◌, inl, inr, arith}
 use Rattle.std.proofs.lemmas.List.{get_or-replicate, get_or_past}
-use Rattle.std.proofs.lemmas.Bool.{cases_eq, cases_lt, cases_Bool, eq-eqb, ne_eqb, cond-true, cond-false, not-true, not-false, both_ways}
+use Rattle.std.proofs.lemmas.Bool.{cases_eq, cases_lt, cases_Bool, eq-eqb, ne_eqb, cond-true, cond-false}
 use Rattle.std.proofs.lemmas.Bool.Decides.{same_from_decides, Decides-like}
 use Rattle.elements.specs.Element.{Shown}
 use Rattle.divisions.specs.Laws.{Meaning, Lawful}
-use Rattle.cones.specs.Cones.{Limits, Shortfall, FirstShortfall}
-use Rattle.cones.specs.declared.shortfalls.Short.{Short}
+use Rattle.cones.specs.Cones.{Shortfall}
 use Rattle.cones.specs.Tables.{limit_in, limits_at, limits_of}
+use Rattle.cones.proofs.Alike.{Same, same_back}
 use Rattle.search.specs.Prefixes.{has, Entries, Prefix, completed}
 use Rattle.search.specs.Liveness.{RowsOfSheet, prefix_limits, live}
-use Rattle.search.specs.Columns.{Wide, Written, Tabled, Extended}
+use Rattle.search.specs.Columns.{Wide, Written, Tabled, cones_at, Located, without, Relocated, Extended}
 use Rattle.search.proofs.Entries.{has_snoc}
 use Rattle.search.proofs.Listed.{has_middle, apart_middle, entries_front}
 use Rattle.search.proofs.Orders.{count_unused, completed_front}
 use Rattle.search.proofs.Testing.{only_kept}
+use Rattle.search.proofs.Locating.{some_none, located_less, located_alike}
 use Rattle.search.proofs.Deadness.{shortfall_on, live_is_told_by_its_test, begun, same_limits, front_more, has_on}
-
--- what `is_none` tells of a first shortfall
-pub decides_shortfall : (n : ℕ) (rows : List Shown) (lim : Limits) (o : Option Short) (b : Bool) → is_some o ≡ not b →
-    MatchOption o ((q v d : ℕ) → Shortfall n rows lim q v d → ⊥) (λ f. FirstShortfall n rows lim f.place f.variable f.power) →
-    Decides b ((q v d : ℕ) → Shortfall n rows lim q v d → ⊥)
-decides_shortfall n rows lim None b e c = (λ _. c, λ _. not-false b (sym e))
-decides_shortfall n rows lim (Some f) b e c =
-    (λ t. absurd (both_ways b (not-true b (sym e)) t), λ none. absurd (none f.place f.variable f.power c.shortfall))
 
 module _ (m : Meaning) (lawful : Lawful m) (n : ℕ) (rows : List Shown) (s : RowsOfSheet n rows) where
   module _ (p : List ℕ) (x : ℕ) (h : Entries n (p ++ (x ∷ []))) where
@@ -44,6 +37,16 @@ module _ (m : Meaning) (lawful : Lawful m) (n : ℕ) (rows : List Shown) (s : Ro
         most : length p ≤ n
         most = omega (arith, count_unused n p front)
 
+    -- a variable that is no entry has no limits
+    unlisted : (q v : ℕ) → v ≡ x → prefix_limits m n rows p q v ≡ None
+    unlisted q v e = cond-false (has v p) (m rows (completed n p) q v) None (rw e (apart_middle p x [] h.apart))
+
+    -- a cone that is told by all limits is one by fewer
+    pub located_back : (cones : List (List ℕ)) → Located n rows (prefix_limits m n rows (p ++ (x ∷ []))) cones → Located n rows (prefix_limits m n rows p) cones
+    located_back cones l =
+        located_less n rows (prefix_limits m n rows p) (prefix_limits m n rows (p ++ (x ∷ []))) cones
+        (λ q v d hq low high e. elim (cases_eq v x) [ inl z ↦ some_none d (sym (unlisted q v z) ∙ e) | inr o ↦ agree q v hq o ∙ e ]) l
+
     module _ (old new : List (List (Option ℕ))) where
       -- its column comes
       pub tabled_more : Tabled m n rows p old →
@@ -61,16 +64,16 @@ module _ (m : Meaning) (lawful : Lawful m) (n : ℕ) (rows : List Shown) (s : Ro
       }
 
       -- and goes
-      pub tabled_less : Tabled m n rows (p ++ (x ∷ [])) old →
-          (Wide old → Wide new × ((q v : ℕ) → q < 64 → limits_of new q v ≡ cond (eqb v x) None (limits_of old q v))) →
+      pub tabled_less : (count : ℕ) → length rows ≡ count → Tabled m n rows (p ++ (x ∷ [])) old →
+          (Wide old → Wide new × ((q v : ℕ) → q < count → limits_of new q v ≡ cond (eqb v x) None (limits_of old q v))) →
           Tabled m n rows p new
-      tabled_less t w = record {
+      tabled_less count long t w = record {
         wide = (w t.wide).0;
         limits = λ q v hq low high.
-            let place : q < 64 = omega (arith, s.few) in
+            let place : q < count = omega arith in
             elim (cases_eq v x) [
               | inl e ↦ (w t.wide).1 q v place ∙ cond-true (eqb v x) None (limits_of old q v) (eq-eqb v x e)
-                  ∙ sym (cond-false (has v p) (m rows (completed n p) q v) None (rw e (apart_middle p x [] h.apart)))
+                  ∙ sym (unlisted q v e)
               | inr d ↦ (w t.wide).1 q v place ∙ cond-false (eqb v x) None (limits_of old q v) (ne_eqb v x d)
                   ∙ t.limits q v hq low high ∙ agree q v hq d
             ];
@@ -87,19 +90,30 @@ module _ (m : Meaning) (lawful : Lawful m) (n : ℕ) (rows : List Shown) (s : Ro
         told)
         (live_is_told_by_its_test m n rows s p h)
 
-  -- x is added to q: its column is written by the ordering that the longer prefix begins, and r tells whether the table then has a shortfall
-  pub extended : (p q : List ℕ) (x : ℕ) (order : List ℕ) (old new : List (List (Option ℕ))) (count : ℕ) (r : Bool) →
-      p ≡ q ++ (x ∷ []) → Prefix n p → order ≡ completed n p → length rows ≡ count → Tabled m n rows q old →
+  -- x is added to q: its column is written by the ordering that the longer prefix begins, and r and the table of cones tell where the products then lie
+  pub extended : (p q : List ℕ) (x : ℕ) (order : List ℕ) (old new : List (List (Option ℕ))) (before after : List (List ℕ)) (count : ℕ) (r : Bool) →
+      p ≡ q ++ (x ∷ []) → Prefix n p → order ≡ completed n p → length rows ≡ count → Tabled m n rows q old → Located n rows (prefix_limits m n rows q) before →
       Written (λ c. m rows order c x) x count old new →
-      Decides r ((c v d : ℕ) → Shortfall n rows (limits_of new) c v d → ⊥) →
-      Extended m n rows p r new
-  extended p q x order old new count r more h is long t w told =
+      (Located n rows (without x (limits_of new)) before → Relocated n rows x (limits_of new) r after) →
+      Extended m n rows q p r new after
+  extended p q x order old new before after count r more h is long t l w told =
       let entries : Entries n (q ++ (x ∷ [])) = rw more at h.entries in
       let order_is : order ≡ completed n (q ++ (x ∷ [])) = is ∙ ap (λ xs. completed n xs) more in
       let tabled : Tabled m n rows (q ++ (x ∷ [])) new =
       tabled_more q x entries old new t (λ wide. ((w wide).0, λ c v l. rw (← order_is) ((w wide).1 c v (omega arith)))) in
       let whole : Tabled m n rows p new = rw more tabled in
-      record { told = tabled_live p h new whole r told; tabled = whole }
+      let same : Same n rows (prefix_limits m n rows q) (without x (limits_of new)) = λ c v hc low high. elim (cases_eq v x) [
+        | inl e ↦ unlisted q x entries c v e ∙ sym (cond-true (eqb v x) None (limits_of new c v) (eq-eqb v x e))
+        | inr d ↦ sym (t.limits c v hc low high) ∙ sym (cond-false (eqb v x) (m rows order c x) (limits_of old c v) (ne_eqb v x d)) ∙ sym ((w t.wide).1 c v (omega arith))
+            ∙ sym (cond-false (eqb v x) None (limits_of new c v) (ne_eqb v x d))
+      ] in
+      let found = told (located_alike n rows (prefix_limits m n rows q) (without x (limits_of new)) before same l) in
+      record {
+        told = tabled_live p h new whole r found.told;
+        tabled = whole;
+        shorter = located_alike n rows (without x (limits_of new)) (prefix_limits m n rows q) after (same_back n rows (prefix_limits m n rows q) (without x (limits_of new)) same) found.others;
+        longer = λ live. located_alike n rows (limits_of new) (prefix_limits m n rows p) after whole.limits (found.all live);
+      }
 
 module _ (m : Meaning) (lawful : Lawful m) (n : ℕ) (rows : List Shown) (s : RowsOfSheet n rows) where
   -- no entries, no limits
@@ -123,3 +137,13 @@ module _ (m : Meaning) (lawful : Lawful m) (n : ℕ) (rows : List Shown) (s : Ro
 
       limits_start : (q v : ℕ) → limits_of (replicate 64 (replicate 8 None)) q v ≡ None
       limits_start q v = ap (λ xs. limit_in xs v) (row_start q) ∙ none_at v
+
+  -- no limits, no products
+  pub located_start : Located n rows (prefix_limits m n rows []) (replicate 64 (replicate 8 0))
+  located_start = record { wide = wide_cones; cone = λ q v d hq low high e. some_none d e }
+    where
+      wide_cones : (q : ℕ) → length (cones_at (replicate 64 (replicate 8 0)) q) ≡ 8
+      wide_cones q = elim (cases_lt q 64) [
+        | inl l ↦ ap length (get_or-replicate 64 q (replicate 8 0) (replicate 8 0) l)
+        | inr l ↦ ap length (get_or_past (replicate 64 (replicate 8 0)) q (replicate 8 0) l)
+      ]

@@ -8,6 +8,7 @@ pub mod Testing
 pub mod Deadness
 pub mod Answered
 pub mod Writing
+pub mod Locating
 pub mod Extending
 pub mod Walk
 pub mod Stepping

@@ -5,21 +5,22 @@ use Rattle.std.specs.Option.{option_map}
 use Rattle.elements.specs.Element.{Shown}
 use Rattle.divisions.specs.Laws.{Meaning, Lawful}
 use Rattle.search.specs.Prefixes.{has, unused_above, padded, completed}
-use Rattle.search.specs.Liveness.{RowsOfSheet, live, answer, tested}
-use Rattle.search.specs.Columns.{Written, Tabled, Extended}
+use Rattle.search.specs.Liveness.{RowsOfSheet, prefix_limits, live, answer, tested}
+use Rattle.search.specs.Columns.{Written, Tabled, Located, Extended}
 use Rattle.search.specs.declared.prefixes.Prefix.{Prefix}
 use Rattle.search.proofs.Reached.{literal}
 use Rattle.search.proofs.Deadness.{closed}
 use Rattle.search.proofs.Held.{Held, held, held_last, last_range, taken_more}
-use Rattle.search.proofs.Extending.{tabled_start, tabled_less}
+use Rattle.search.proofs.Extending.{tabled_start, tabled_less, located_start, located_back}
 use Rattle.search.proofs.Walk.{rest, Stands, Follows, start, start_follows, bounded, fresh, entries_p, popped, popped_less, popped_follows, dead, dead_less, dead_follows, deeper, deeper_less, deeper_follows, found_first, found_count, ended_first, ended_count}
 
--- where the search stands; for rows of a sheet, what is left decides what it finds, and the table has the limits of the prefix
-pub record Walking (m : Meaning) (n : ℕ) (rows : List Shown) (p : Prefix) (from c : ℕ) (table : List (List (Option ℕ))) : Type 0 where
+-- where the search stands; for rows of a sheet, what is left decides what it finds, the table has the limits of the prefix, and that of cones tells where the products lie
+pub record Walking (m : Meaning) (n : ℕ) (rows : List Shown) (p : Prefix) (from c : ℕ) (table : List (List (Option ℕ))) (cones : List (List ℕ)) : Type 0 where
   pub same : p.n ≡ n
   pub stands : Stands n p.len p.entries from c
   pub follows : RowsOfSheet n rows → Follows (live m n rows) n p.len p.entries from c
   pub tabled : RowsOfSheet n rows → Tabled m n rows (take p.len p.entries) table
+  pub located : RowsOfSheet n rows → Located n rows (prefix_limits m n rows (take p.len p.entries)) cones
 
 -- what is left of the listing
 abbrev pub work : ℕ → Prefix → ℕ → ℕ
@@ -55,15 +56,16 @@ module _ (p : Prefix) (x : ℕ) (q : Prefix) (on : Pushed p x q) (b : Prefix) wh
   back o pops = let (len, entries) = off o pops in (len, entries ∙ rw (len, on.entries) refl)
 
 module _ {m : Meaning} (lawful : Lawful m) {n : ℕ} {rows : List Shown} where
-  pub walking_start : 1 ≤ n → (p : Prefix) → p.len ≡ 0 → p.n ≡ n → Walking m n rows p 0 0 (replicate 64 (replicate 8 None))
+  pub walking_start : 1 ≤ n → (p : Prefix) → p.len ≡ 0 → p.n ≡ n → Walking m n rows p 0 0 (replicate 64 (replicate 8 None)) (replicate 64 (replicate 8 0))
   walking_start some p z same = record {
     same = same;
     stands = rw z (start n p.entries some);
     follows = λ s. rw z (start_follows (live m n rows) n p.entries some);
     tabled = λ s. rw z (tabled_start m lawful n rows s);
+    located = λ s. rw z (located_start m lawful n rows s);
   }
 
-  module _ {p : Prefix} {from c : ℕ} {table : List (List (Option ℕ))} (w : Walking m n rows p from c table) where
+  module _ {p : Prefix} {from c : ℕ} {table : List (List (Option ℕ))} {cones : List (List ℕ)} (w : Walking m n rows p from c table cones) where
     here : Held n p.len p.entries
     here = rw w.same at (held p)
 
@@ -91,15 +93,19 @@ module _ {m : Meaning} (lawful : Lawful m) {n : ℕ} {rows : List Shown} where
         pub pop_range : (1 ≤ x) × (x ≤ 8)
         pop_range = let (low, high) = last_range here q.len z in (omega (arith, off.last.1, low), omega (arith, off.last.1, high, here.most))
 
-        pub walking_back : (new : List (List (Option ℕ))) → Written (λ r. None) x 64 table new → Walking m n rows q x c new
-        walking_back new written = record {
+        pub walking_back : (new : List (List (Option ℕ))) (count : ℕ) → length rows ≡ count → Written (λ r. None) x count table new → Walking m n rows q x c new cones
+        walking_back new count long written = record {
           same = off.same ∙ w.same;
           stands = rw (off.last.2, ← off.last.1) (popped here w.stands q.len z ended);
           follows = λ s. rw (off.last.2, ← off.last.1) (popped_follows here w.stands (w.follows s) q.len z ended);
           tabled = λ s.
               let last = held_last here q.len z in
               rw (off.last.2, take-set-le q.len p.entries q.len 0 (omega arith))
-              (tabled_less m lawful n rows s (take q.len p.entries) (get_or p.entries q.len 0) (rw last at here.proper) table new (rw last at (w.tabled s)) (rw (← off.last.1) at written));
+              (tabled_less m lawful n rows s (take q.len p.entries) (get_or p.entries q.len 0) (rw last at here.proper) table new count long (rw last at (w.tabled s)) (rw (← off.last.1) at written));
+          located = λ s.
+              let last = held_last here q.len z in
+              rw (off.last.2, take-set-le q.len p.entries q.len 0 (omega arith))
+              (located_back m lawful n rows s (take q.len p.entries) (get_or p.entries q.len 0) (rw last at here.proper) cones (rw last at (w.located s)));
         }
 
         pub work_back : work n q x < work n p from
@@ -127,14 +133,15 @@ module _ {m : Meaning} (lawful : Lawful m) {n : ℕ} {rows : List Shown} where
             let less : q.len - 1 ≡ p.len = omega (arith, on.len) in
             rw (less, on.entries) (take-set-le p.len p.entries p.len x (omega arith))
 
-        module _ (r : Bool) (new : List (List (Option ℕ)))
-            (told : RowsOfSheet q.n rows → Tabled m q.n rows (take (q.len - 1) q.entries) table → Extended m q.n rows (take q.len q.entries) r new) where
-          extended : RowsOfSheet n rows → Extended m n rows (take p.len p.entries ++ (x ∷ [])) r new
-          extended s = (rw (on.same ∙ w.same, kept, taken) at told) s (w.tabled s)
+        module _ (r : Bool) (new : List (List (Option ℕ))) (found : List (List ℕ))
+            (told : RowsOfSheet q.n rows → Tabled m q.n rows (take (q.len - 1) q.entries) table → Located q.n rows (prefix_limits m q.n rows (take (q.len - 1) q.entries)) cones →
+            Extended m q.n rows (take (q.len - 1) q.entries) (take q.len q.entries) r new found) where
+          extended : RowsOfSheet n rows → Extended m n rows (take p.len p.entries) (take p.len p.entries ++ (x ∷ [])) r new found
+          extended s = (rw (on.same ∙ w.same, kept, taken) at told) s (w.tabled s) (w.located s)
 
           module _ (o : Option ℕ) (b : Prefix) (pops : Pops q o b) where
-            pub walking_dead : r ≡ false → (last : List (List (Option ℕ))) → Written (λ i. None) x 64 new last → Walking m n rows b x (c + 1) last
-            walking_dead is last written =
+            pub walking_dead : r ≡ false → (last : List (List (Option ℕ))) (count : ℕ) → length rows ≡ count → Written (λ i. None) x count new last → Walking m n rows b x (c + 1) last found
+            walking_dead is last count long written =
                 let (len, entries) = back p x q on b o pops in
                 record {
                   same = pops.same ∙ on.same ∙ w.same;
@@ -142,7 +149,9 @@ module _ {m : Meaning} (lawful : Lawful m) {n : ℕ} {rows : List Shown} where
                   follows = λ s. rw (len, entries) (dead_follows here w.stands (w.follows s) x next (sym (extended s).told ∙ is));
                   tabled = λ s.
                       rw (len, entries, take-set-le p.len (set p.entries p.len x) p.len 0 (omega arith), take-set-le p.len p.entries p.len x (omega arith))
-                      (tabled_less m lawful n rows s (take p.len p.entries) x (entries_p here w.stands x next) new last (extended s).tabled written);
+                      (tabled_less m lawful n rows s (take p.len p.entries) x (entries_p here w.stands x next) new last count long (extended s).tabled written);
+                  located = λ s.
+                      rw (len, entries, take-set-le p.len (set p.entries p.len x) p.len 0 (omega arith), take-set-le p.len p.entries p.len x (omega arith)) (extended s).shorter;
                 }
 
             pub work_dead : work n b x < work n p from
@@ -153,12 +162,13 @@ module _ {m : Meaning} (lawful : Lawful m) {n : ℕ} {rows : List Shown} where
               less : p.len + 1 < n
               less = omega (arith, short, on.len, on.same ∙ w.same, w.stands.within)
 
-              pub walking_on : Walking m n rows q 0 (c + 1) new
+              pub walking_on : Walking m n rows q 0 (c + 1) new found
               walking_on = record {
                 same = on.same ∙ w.same;
                 stands = rw (on.len, on.entries) (deeper here w.stands x next less);
                 follows = λ s. rw (on.len, on.entries) (deeper_follows here w.stands (w.follows s) x next (sym (extended s).told ∙ is) less);
                 tabled = λ s. rw taken (extended s).tabled;
+                located = λ s. rw taken ((extended s).longer is);
               }
 
               pub work_on : work n q 0 < work n p from

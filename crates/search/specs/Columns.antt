@@ -1,7 +1,9 @@
--- Tables of limits, written a column at a time. Assumes nothing.
-use Rattle.std.specs.Prelude.{◌≡◌, ℕ, ◌<◌, ◌≤◌, Bool, cond, List, length, Option, ◌==◌}
-use Rattle.elements.specs.Element.{Shown}
+-- Tables of limits, written a column at a time, and of the places of cones. Assumes nothing.
+use Rattle.std.specs.Prelude.{◌≡◌, ℕ, ◌-◌, ◌<◌, ◌≤◌, Bool, true, cond, List, length, replicate, Some, None, Option, Decides, ◌==◌, slice_index_or}
+use Rattle.elements.specs.Element.{Shown, times}
+use Rattle.orderings.specs.Rows.{row}
 use Rattle.divisions.specs.Laws.{Meaning}
+use Rattle.cones.specs.Cones.{Limits, InCone, Shortfall}
 use Rattle.cones.specs.Tables.{limits_at, limits_of}
 use Rattle.search.specs.Liveness.{prefix_limits, live}
 
@@ -19,7 +21,31 @@ pub record Tabled (m : Meaning) (n : ℕ) (rows : List Shown) (p : List ℕ) (ta
   pub wide : Wide table
   pub limits : (q v : ℕ) → q < length rows → 1 ≤ v → v ≤ n → limits_of table q v ≡ prefix_limits m n rows p q v
 
--- r tells whether the prefix is live, and the table has its limits
-pub record Extended (m : Meaning) (n : ℕ) (rows : List Shown) (p : List ℕ) (r : Bool) (table : List (List (Option ℕ))) : Type 0 where
+-- the place that a table of cones tells for variable v, which counts from 1, at the row of place q
+abbrev pub cones_at : List (List ℕ) → ℕ → List ℕ
+cones_at cones q = slice_index_or cones q (replicate 8 0)
+
+abbrev pub cone_at : List (List ℕ) → ℕ → ℕ → ℕ
+cone_at cones q v = slice_index_or (cones_at cones q) (v - 1) 0
+
+-- the product of each row with its limit in a variable lies in the cone of the place that the table tells
+pub record Located (n : ℕ) (rows : List Shown) (lim : Limits) (cones : List (List ℕ)) : Type 0 where
+  pub wide : (q : ℕ) → length (cones_at cones q) ≡ 8
+  pub cone : (q v d : ℕ) → q < length rows → 1 ≤ v → v ≤ n → lim q v ≡ Some d → InCone n rows lim (cone_at cones q v) (times (row rows q) v d)
+
+-- the limits but for those of variable x
+abbrev pub without : ℕ → Limits → Limits
+without x lim q v = cond (v == x) None (lim q v)
+
+-- r tells whether each product lies in a cone, and then the table tells one; it tells one in any case by the limits but for those of variable x
+pub record Relocated (n : ℕ) (rows : List Shown) (x : ℕ) (lim : Limits) (r : Bool) (cones : List (List ℕ)) : Type 0 where
+  pub told : Decides r ((q v d : ℕ) → Shortfall n rows lim q v d → ⊥)
+  pub others : Located n rows (without x lim) cones
+  pub all : r ≡ true → Located n rows lim cones
+
+-- r tells whether the prefix p, which is q with one entry more, is live; the table has its limits, and that of cones tells those by q, and those by p where it is live
+pub record Extended (m : Meaning) (n : ℕ) (rows : List Shown) (q p : List ℕ) (r : Bool) (table : List (List (Option ℕ))) (cones : List (List ℕ)) : Type 0 where
   pub told : r ≡ live m n rows p
   pub tabled : Tabled m n rows p table
+  pub shorter : Located n rows (prefix_limits m n rows q) cones
+  pub longer : r ≡ true → Located n rows (prefix_limits m n rows p) cones

@@ -1,15 +1,21 @@
-// The limits of a prefix's variables, in a table with a column for each of eight variables.
-ghost use Rattle.std.specs.Prelude.{◌-◌, ◌≤◌, map, length, take, None};
-ghost use Rattle.search.specs.Liveness.{RowsOfSheet};
-ghost use Rattle.search.specs.Columns.{Written, Tabled, Extended};
+// The limits of a prefix's variables, in a table with a column for each of eight variables, and where the products with these lie.
+ghost use Rattle.std.specs.Prelude.{ℕ, ◌-◌, ◌≤◌, ◌≢◌, map, length, take, None, MatchOption};
+ghost use Rattle.elements.specs.Element.{times};
+ghost use Rattle.cones.specs.Cones.{InCone};
+ghost use Rattle.cones.specs.Tables.{limits_of};
+ghost use Rattle.search.specs.Liveness.{RowsOfSheet, prefix_limits};
+ghost use Rattle.search.specs.Columns.{Written, Tabled, Located, without, Relocated, Extended};
 
 use crate::prefixes::*;
 use barcode::Ranked;
 use cones::holding::Limited;
-use cones::shortfalls::Guesses;
 use cones::tables::Limits;
 use divisions::Division;
 use elements::Element;
+
+// For the product of a row with the power of a variable that is its limit, the place of a row whose cone holds it: that of variable v at index v - 1,
+// as limits are kept. Places, not references, and no list: a rule of the project, as the search has no heap.
+pub(crate) type Cones = [[usize; 8]; 64];
 
 // Writes the limits of variable x into its column, for each of the rows.
 fn fill_column<E: Element, D: Division>(
@@ -27,39 +33,90 @@ fn fill_column<E: Element, D: Division>(
     }
 }
 
-// Takes the limits of variable x out again.
-pub(crate) fn clear_column(table: &mut [Limits; 64], x: u8)
-    requires { (1 ≤ x) × (x ≤ 8) }
-    ensures { Written (λ q. None) x 64 table.old table.new }
+// Takes the limits of variable x out again, at so many rows.
+pub(crate) fn clear_column(table: &mut [Limits; 64], count: usize, x: u8)
+    requires places { count ≤ 64 }
+    requires column { (1 ≤ x) × (x ≤ 8) }
+    ensures { Written (λ q. None) x count table.old table.new }
 {
-    for limits in table.iter_mut() {
+    for limits in table[..count].iter_mut() {
         limits[x as usize - 1] = None;
     }
 }
 
+// The place of a row whose cone holds the product of a row with a power of a variable. By the limits but for those of variable x it lies in the cone
+// of the place told, unless x is that variable; it is looked for, beginning with a guess, only where x has taken it out of that.
+fn cone_still<E: Element>(
+    limited: &Limited<E>,
+    row: &E,
+    variable: u8,
+    power: u16,
+    told: usize,
+    guess: usize,
+    x: u8,
+) -> Option<usize>
+    ensures { limited.now.n ≤ 8 → 1 ≤ variable → variable ≤ limited.now.n → (variable ≢ x → InCone limited.now.n (map E.Element.shown limited.now.rows.now) (without x (limits_of limited.now.limits.now)) told (times (E.Element.shown row.now) variable power)) → MatchOption result ((s : ℕ) → InCone limited.now.n (map E.Element.shown limited.now.rows.now) (limits_of limited.now.limits.now) s (times (E.Element.shown row.now) variable power) → ⊥) (λ s. InCone limited.now.n (map E.Element.shown limited.now.rows.now) (limits_of limited.now.limits.now) s (times (E.Element.shown row.now) variable power)) }
+{
+    if variable == x {
+        return limited.cone_of_product(row, variable, power, told);
+    }
+    if limited.is_within(told, row, x) {
+        return Some(told);
+    }
+    limited.cone_of_product(row, variable, power, guess)
+}
+
+// Whether each product lies in a cone, now that variable x has limits. The table of cones tells one of each by the limits but for those of x,
+// and afterwards by all limits, if there is one. Where a product has left a cone, it often lies in the one that held it before that;
+// the table of former cones may have any content.
+fn relocate<E: Element>(limited: &Limited<E>, cones: &mut Cones, former: &mut Cones, x: u8) -> bool
+    requires places { length limited.now.rows.now ≤ 64 }
+    requires variables { limited.now.n ≤ 8 }
+    ensures { Located limited.now.n (map E.Element.shown limited.now.rows.now) (without x (limits_of limited.now.limits.now)) cones.old → Relocated limited.now.n (map E.Element.shown limited.now.rows.now) x (limits_of limited.now.limits.now) result cones.new }
+{
+    for (place, row) in limited.rows.iter().enumerate() {
+        for variable in 1..=limited.n {
+            if let Some(power) = limited.limit(place, variable) {
+                let told = cones[place][variable as usize - 1];
+                let guess = former[place][variable as usize - 1];
+                let Some(found) = cone_still(limited, row, variable, power, told, guess, x) else {
+                    return false;
+                };
+                if found != told {
+                    former[place][variable as usize - 1] = told;
+                }
+                cones[place][variable as usize - 1] = found;
+            }
+        }
+    }
+    true
+}
+
 // Adds the limits of the last entry of a prefix to those of the others in the table, and tells whether the prefix is live.
-// It is guessed that a product lies in the cone where it lay by the limits of other prefixes.
+// The shorter prefix is live, and the table of cones tells a cone of each product by its limits.
 pub(crate) fn extend<E: Element, D: Division>(
     table: &mut [Limits; 64],
-    guesses: &mut Guesses,
+    cones: &mut Cones,
+    former: &mut Cones,
     division: &D,
     rows: &[E],
     prefix: &Prefix,
 ) -> bool
     requires places { length rows.now ≤ 64 }
     requires some { 1 ≤ prefix.now.len }
-    ensures { RowsOfSheet prefix.now.n (map E.Element.shown rows.now) → Tabled (D.Division.meaning division.now) prefix.now.n (map E.Element.shown rows.now) (take (prefix.now.len - 1) prefix.now.entries) table.old → Extended (D.Division.meaning division.now) prefix.now.n (map E.Element.shown rows.now) (take prefix.now.len prefix.now.entries) result table.new }
+    ensures { RowsOfSheet prefix.now.n (map E.Element.shown rows.now) → Tabled (D.Division.meaning division.now) prefix.now.n (map E.Element.shown rows.now) (take (prefix.now.len - 1) prefix.now.entries) table.old → Located prefix.now.n (map E.Element.shown rows.now) (prefix_limits (D.Division.meaning division.now) prefix.now.n (map E.Element.shown rows.now) (take (prefix.now.len - 1) prefix.now.entries)) cones.old → Extended (D.Division.meaning division.now) prefix.now.n (map E.Element.shown rows.now) (take (prefix.now.len - 1) prefix.now.entries) (take prefix.now.len prefix.now.entries) result table.new cones.new }
 {
     let order = prefix.completed();
     let ranked = Ranked {
         rows,
         order: &order,
     };
-    fill_column(table, division, &ranked, prefix.last());
+    let x = prefix.last();
+    fill_column(table, division, &ranked, x);
     let limited = Limited {
         rows,
         limits: &table[..],
         n: prefix.n,
     };
-    limited.first_shortfall_by(guesses).is_none()
+    relocate(&limited, cones, former, x)
 }

@@ -42,7 +42,8 @@ pub fn search<E: Element, D: Division>(division: &D, rows: &[E], n: u8) -> Found
     }
     let mut prefix = Prefix::new(n);
     let mut table = [[None; 8]; 64];
-    let mut guesses = [[0; 8]; 64];
+    let mut cones = [[0; 8]; 64];
+    let mut former = [[0; 8]; 64];
     let mut from: u8 = 0;
     let mut tested: u32 = 0;
     // a loop that breaks with the ordering: a rule of the project
@@ -53,15 +54,15 @@ pub fn search<E: Element, D: Division>(division: &D, rows: &[E], n: u8) -> Found
                     break 'walk None;
                 };
                 from = last;
-                clear_column(&mut table, from);
+                clear_column(&mut table, rows.len(), from);
             }
             Some(x) => {
                 prefix.push(x);
                 tested += 1;
-                if !extend(&mut table, &mut guesses, division, rows, &prefix) {
+                if !extend(&mut table, &mut cones, &mut former, division, rows, &prefix) {
                     prefix.pop();
                     from = x;
-                    clear_column(&mut table, x);
+                    clear_column(&mut table, rows.len(), x);
                 } else if prefix.is_full() {
                     break 'walk Some(prefix.completed());
                 } else {

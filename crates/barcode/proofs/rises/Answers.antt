@@ -1,26 +1,20 @@
-use Rattle.std.proofs.Common.{sym, ap, ◌∙◌, arith}
-use Rattle.std.proofs.lemmas.Bool.{false≢true}
-use Rattle.std.proofs.lemmas.Bool.Decides.{not_from_Decides, Decides-at}
-use Rattle.elements.specs.Element.{entry}
-use Rattle.barcode.proofs.Found.{is_some_decides, not_above, rises_told}
+use Rattle.std.proofs.Common.{rules, tests, arith, take, sym, ◌∙◌, ◌<◌, ◌≡◌, length}
+use Rattle.std.proofs.lemmas.Bool.{ltb-true}
+use Rattle.std.proofs.lemmas.List.{get_or_default}
+use Rattle.std.proofs.lemmas.Iterator.{cases_from_all, YieldsList-from_slice}
+use Rattle.elements.specs.Element.{exponent}
+use Rattle.barcode.proofs.Found.{parts_told}
 use Rattle.barcode.proofs.rises.Goals as goal
-
-pub returns-then-high-low : goal.returns-then-high-low
-returns-then-high-low g c =
-    let v = c.args.variable in (
-      λ t. absurd (false≢true t),
-      λ r. absurd (not_above c.args.order.now v _ _ c.exponent_of-low.result c.exponent_of-high.result
-          (c.exponent_of-low.ensures ∙ ap (λ xs. entry xs v) c.exponents.ensures) (c.exponent_of-high.ensures ∙ ap (λ xs. entry xs v) c.exponents-2.ensures) c.if-high-low.true r),
-    )
 
 pub returns-then-same_family : goal.returns-then-same_family
 returns-then-same_family g c =
-    let v = c.args.variable in
-    rises_told c.args.order.now v _ _ c.part_at.result c.eq.result c.exponent_of-low.result c.exponent_of-high.result
-    (c.same_family.ensures.0 c.if-same_family.true) c.part_at.ensures
-    (c.exponent_of-low.ensures ∙ ap (λ xs. entry xs v) c.exponents.ensures) (c.exponent_of-high.ensures ∙ ap (λ xs. entry xs v) c.exponents-2.ensures)
-    (omega (arith, c.if-high-low.false))
-    (rw c.position.ensures.value at (Decides-at c.eq.result _ c.eq.ensures (is_some_decides c.part_at.result c.position.result)))
-
-pub returns-else-same_family : goal.returns-else-same_family
-returns-else-same_family g c = (λ t. absurd (false≢true (sym c.if-same_family.false ∙ t)), λ r. absurd (not_from_Decides _ c.same_family.ensures c.if-same_family.false r.family))
+    let order = c.args.order.now in
+    let here = c.args.here in
+    let x = c.in-Some.variable.now in
+    let u = g.E.Element.shown c.args.u.now in
+    let w = g.E.Element.shown c.args.w.now in
+    let inside : here < length order = ltb-true _ _ (sym c.in-Some.ensures.lookup.0) in
+    parts_told order here x u w inside (c.in-Some.ensures.lookup.1 ∙ get_or_default order here x 0 inside) c.all.result (c.same_family.ensures.0 c.if-same_family.true)
+    (omega (arith, c.if-high-low.false, c.exponent-low.ensures, c.exponent-high.ensures))
+    (cases_from_all c.all.new.self _ _ (λ y. exponent u y ≡ exponent w y) (λ y. exponent u y ≡ exponent w y → ⊥) c.all.ensures.ran
+    (YieldsList-from_slice (take here order) cc) (λ x q k. search (rules, tests)) (λ x q k. search (rules, tests)))

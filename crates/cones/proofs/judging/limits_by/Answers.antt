@@ -1,9 +1,12 @@
-use Rattle.std.proofs.Common.{rules, tests, map, replicate, None}
-use Rattle.elements.proofs.Made.{made}
-use Rattle.cones.specs.Tables.{LimitsFrom}
+use Rattle.std.proofs.Common.{arith}
+use Rattle.cones.proofs.Obtained.{obtaining_start, obtaining_more}
 use Rattle.cones.proofs.judging.limits_by.Goals as goal
 
+pub loop-place-init : goal.loop-place-init
+loop-place-init g c = obtaining_start _ _
+
+pub loop-place-preserved : goal.loop-place-preserved
+loop-place-preserved g c = obtaining_more _ _ c.loop-place.place c.loop-place.table c.limits_of_row.result (omega arith) c.limits_of_row.ensures c.loop-place.invariant
+
 pub returns : goal.returns
-returns g c p l =
-    made _ _ (λ place limits. LimitsFrom c.args.n (g.D.Division.meaning c.args.division.now (map g.E.Element.shown c.args.ranked.now.rows.now) c.args.ranked.now.order.now place) limits)
-    (λ place limits q k. search (rules, tests)) c.from_fn.result (replicate 8 None) 64 c.from_fn.ensures.items p l
+returns g c = record { rows = λ p few l. c.loop-place.invariant.rows p (omega arith); past = λ p l. c.loop-place.invariant.past p (omega arith) }

@@ -12,7 +12,7 @@ returns g c = record {
       let k = length-map c.args.ranked.now.rows.now g.E.Element.shown in
       judged_by (g.D.Division.meaning c.args.division.now) (g.met.D.Division.lawful c.args.division.now) c.args.n rows c.args.ranked.now.order.now on
       (limits_of c.limits_by-limits.result)
-      (λ p v l low high. (c.limits_by-limits.ensures p (omega (arith, on.few))).own v low high (omega (arith, on.variables.most)))
+      (λ p v l low high. (c.limits_by-limits.ensures.rows p (omega (arith, on.few)) (omega arith)).own v low high (omega (arith, on.variables.most)))
       c.first_shortfall.result c.first_shortfall.ensures.first;
   separated = lawful_limits_are_separated;
   wider = janet_like_completes_what_any_division_completes;

@@ -1,23 +1,20 @@
 use Rattle.std.proofs.Common.{◌-◌, map, arith}
 use Rattle.std.proofs.lemmas.List.{length-map}
-use Rattle.cones.specs.Tables.{limits_of}
 use Rattle.search.proofs.Held.{held, held_prefix, held_last, last_range}
-use Rattle.search.proofs.Extending.{extended, decides_shortfall}
+use Rattle.search.proofs.Extending.{extended}
 use Rattle.search.proofs.columns.extend.Goals as goal
 
 pub fill_column-requires : goal.fill_column-requires
 fill_column-requires g c =
     let p = c.args.prefix.now in
     let (low, high) = last_range (held p) (p.len - 1) (omega (arith, c.requires.some)) in
-    record { places = c.requires.places; column = (rw c.last.ensures at low, omega (arith, c.last.ensures, high, p.few)) }
+    record { places = c.requires.places; column = (rw c.last-x.ensures at low, omega (arith, c.last-x.ensures, high, p.few)) }
 
 pub returns : goal.returns
-returns g c = λ s t.
+returns g c = λ s t l.
     let shown = g.E.Element.shown in
     let p = c.args.prefix.now in
     extended (g.D.Division.meaning c.args.division.now) (g.met.D.Division.lawful c.args.division.now) p.n (map shown c.args.rows.now) s
-    _ _ c.last.result c.completed-order.result c.args.table.now c.fill_column.new.table _ c.is_none.result
-    (rw c.last.ensures at (held_last (held p) (p.len - 1) (omega (arith, c.requires.some)))) (held_prefix (held p) c.requires.some)
-    c.completed-order.ensures (length-map c.args.rows.now shown) t c.fill_column.ensures
-    (decides_shortfall p.n (map shown c.args.rows.now) (limits_of c.fill_column.new.table) c.first_shortfall_by.result c.is_none.result
-    c.is_none.ensures c.first_shortfall_by.ensures)
+    _ _ c.last-x.result c.completed-order.result c.args.table.now c.fill_column.new.table c.args.cones.now c.relocate.new.cones _ c.relocate.result
+    (rw c.last-x.ensures at (held_last (held p) (p.len - 1) (omega (arith, c.requires.some)))) (held_prefix (held p) c.requires.some)
+    c.completed-order.ensures (length-map c.args.rows.now shown) t l c.fill_column.ensures c.relocate.ensures

@@ -1,6 +1,7 @@
 use Rattle.std.proofs.Common.{◌≡◌, ℕ, ◌≤◌, List, length, None, Option, refl, arith}
 use Rattle.std.specs.Option.{option_map}
 use Rattle.std.proofs.lemmas.Bool.Decides.{not_from_Decides}
+use Rattle.std.proofs.lemmas.List.{length-map}
 use Rattle.std.proofs.lemmas.Grind.{common_steps}
 use Rattle.elements.specs.Element.{Shown}
 use Rattle.orderings.specs.Order.{VariableCount}
@@ -21,7 +22,7 @@ walk-init g c =
 
 pub clear_column-requires : goal.clear_column-requires
 clear_column-requires g c =
-    pop_range (g.met.D.Division.lawful c.args.division.now) c.walk.invariant c.in-None.ensures c.pop.new.self c.in-Some-pop.ensures
+    record { places = omega arith; column = pop_range (g.met.D.Division.lawful c.args.division.now) c.walk.invariant c.in-None.ensures c.pop.new.self c.in-Some-pop.ensures }
 
 pub walk-smaller-in-None : goal.walk-smaller-in-None
 walk-smaller-in-None g c =
@@ -30,7 +31,7 @@ walk-smaller-in-None g c =
 pub walk-preserved-in-None : goal.walk-preserved-in-None
 walk-preserved-in-None g c =
     walking_back (g.met.D.Division.lawful c.args.division.now) c.walk.invariant c.in-None.ensures c.pop.new.self c.in-Some-pop.ensures
-    c.clear_column.new.table c.clear_column.ensures
+    c.clear_column.new.table _ (length-map c.args.rows.now g.E.Element.shown) c.clear_column.ensures
 
 pub push-requires : goal.push-requires
 push-requires g c =
@@ -41,25 +42,25 @@ pub overflow_add-tested : goal.overflow_add-tested
 overflow_add-tested g c = omega (arith, tests_fit (g.met.D.Division.lawful c.args.division.now) c.walk.invariant)
 
 pub clear_column-requires-then-not-extend : goal.clear_column-requires-then-not-extend
-clear_column-requires-then-not-extend g c = next_range (g.met.D.Division.lawful c.args.division.now) c.walk.invariant c.in-Some.x c.in-Some.ensures
+clear_column-requires-then-not-extend g c = record { places = omega arith; column = next_range (g.met.D.Division.lawful c.args.division.now) c.walk.invariant c.in-Some.x c.in-Some.ensures }
 
 pub walk-smaller-then-not-extend : goal.walk-smaller-then-not-extend
 walk-smaller-then-not-extend g c =
-    work_dead (g.met.D.Division.lawful c.args.division.now) c.walk.invariant c.in-Some.x c.in-Some.ensures c.push.new.self c.push.ensures _ _ c.extend.ensures _ c.pop-then-not-extend.new.self c.pop-then-not-extend.ensures
+    work_dead (g.met.D.Division.lawful c.args.division.now) c.walk.invariant c.in-Some.x c.in-Some.ensures c.push.new.self c.push.ensures _ _ _ c.extend.ensures _ c.pop-then-not-extend.new.self c.pop-then-not-extend.ensures
 
 pub walk-preserved-then-not-extend : goal.walk-preserved-then-not-extend
 walk-preserved-then-not-extend g c =
-    walking_dead (g.met.D.Division.lawful c.args.division.now) c.walk.invariant c.in-Some.x c.in-Some.ensures c.push.new.self c.push.ensures _ _ c.extend.ensures
-    _ c.pop-then-not-extend.new.self c.pop-then-not-extend.ensures c.if-not-extend.true _ c.clear_column-then-not-extend.ensures
+    walking_dead (g.met.D.Division.lawful c.args.division.now) c.walk.invariant c.in-Some.x c.in-Some.ensures c.push.new.self c.push.ensures _ _ _ c.extend.ensures
+    _ c.pop-then-not-extend.new.self c.pop-then-not-extend.ensures c.if-not-extend.true _ _ (length-map c.args.rows.now g.E.Element.shown) c.clear_column-then-not-extend.ensures
 
 pub walk-smaller : goal.walk-smaller
 walk-smaller g c =
-    work_on (g.met.D.Division.lawful c.args.division.now) c.walk.invariant c.in-Some.x c.in-Some.ensures c.push.new.self c.push.ensures _ _ c.extend.ensures
+    work_on (g.met.D.Division.lawful c.args.division.now) c.walk.invariant c.in-Some.x c.in-Some.ensures c.push.new.self c.push.ensures _ _ _ c.extend.ensures
     c.if-not-extend.false (not_from_Decides _ c.is_full.ensures c.if-is_full.false)
 
 pub walk-preserved : goal.walk-preserved
 walk-preserved g c =
-    walking_on (g.met.D.Division.lawful c.args.division.now) c.walk.invariant c.in-Some.x c.in-Some.ensures c.push.new.self c.push.ensures _ _ c.extend.ensures
+    walking_on (g.met.D.Division.lawful c.args.division.now) c.walk.invariant c.in-Some.x c.in-Some.ensures c.push.new.self c.push.ensures _ _ _ c.extend.ensures
     c.if-not-extend.false (not_from_Decides _ c.is_full.ensures c.if-is_full.false)
 
 -- what is found, and the theorems
@@ -102,6 +103,6 @@ returns-in_default g c =
 pub returns-then-is_full : goal.returns-then-is_full
 returns-then-is_full g c =
     with_theorems
-    (walking_found (g.met.D.Division.lawful c.args.division.now) c.walk.invariant c.in-Some.x c.in-Some.ensures c.push.new.self c.push.ensures _ _ c.extend.ensures
+    (walking_found (g.met.D.Division.lawful c.args.division.now) c.walk.invariant c.in-Some.x c.in-Some.ensures c.push.new.self c.push.ensures _ _ _ c.extend.ensures
     c.if-not-extend.false (c.is_full.ensures.0 c.if-is_full.true) _ c.completed.ensures)
     (grind (arith, common_steps))

@@ -1,7 +1,7 @@
 use Rattle.std.proofs.Common.{ℕ, ◌<◌, map}
 use Rattle.cones.specs.Cones.{Shortfall}
 use Rattle.cones.specs.Tables.{limits_of}
-use Rattle.cones.proofs.holding.Limited.first_shortfall_by.Given as goal
+use Rattle.cones.proofs.holding.Limited.first_shortfall.Given as goal
 
 -- no variable so far has a shortfall at this place
 abbrev pub invariant-loop-variable : goal.invariant-loop-variable

@@ -1,0 +1,216 @@
+-- A table of cones while limits come and go. Assumes nothing.
+use Rattle.std.proofs.Common.{◌≡◌, ℕ, ◌+◌, ◌-◌, ◌<◌, ◌≤◌, true, false, eqb, ◌⊎◌, List, map, [], length, get_or, set, replicate, Some, None, Option, sym, refl, ap, ◌∙◌, inl, inr, arith}
+use Rattle.std.proofs.lemmas.List.{length-map, get_or-set_same, get_or-set_other, get_or_default, length-set}
+use Rattle.std.proofs.lemmas.Bool.{cases_eq, eq-eqb, ne_eqb, cond-true, cond-false, false≢true}
+use Rattle.elements.specs.Element.{Shown, exponent, times, Variable}
+use Rattle.orderings.specs.Rows.{row}
+use Rattle.orderings.proofs.Places.{row_read}
+use Rattle.cones.specs.Cones.{Limits, InCone}
+use Rattle.cones.proofs.Alike.{Same}
+use Rattle.cones.proofs.Products.{quotient_at}
+use Rattle.search.specs.Liveness.{raised}
+use Rattle.search.specs.Columns.{cones_at, cone_at, Located, without, Relocated}
+use Rattle.search.proofs.Deadness.{AmongLimits}
+use Rattle.search.proofs.Testing.{times_at}
+
+pub some_none : {X : Type 0} (d : ℕ) → ◌≡◌ {A = Option ℕ} None (Some d) → X
+some_none d e = absurd (let z : ◌≡◌ {A = ℕ} 0 1 = cc in omega arith)
+
+-- fewer limits leave elements in their cones
+pub cone_less : (n : ℕ) (rows : List Shown) (lim other : Limits) → AmongLimits n rows lim other → (s : ℕ) (w : Shown) → InCone n rows other s w → InCone n rows lim s w
+cone_less n rows lim other more s w c =
+    record { place = c.place; divides = c.divides; multiplier = λ v m low high e. c.multiplier v m low high (more s v m c.place low high e) }
+
+pub located_less : (n : ℕ) (rows : List Shown) (lim other : Limits) (cones : List (List ℕ)) → AmongLimits n rows lim other → Located n rows other cones → Located n rows lim cones
+located_less n rows lim other cones more l = record {
+  wide = l.wide;
+  cone = λ q v d hq low high e. cone_less n rows lim other more (cone_at cones q v) (times (row rows q) v d) (l.cone q v d hq low high (more q v d hq low high e));
+}
+
+pub located_alike : (n : ℕ) (rows : List Shown) (lim other : Limits) (cones : List (List ℕ)) → Same n rows lim other → Located n rows lim cones → Located n rows other cones
+located_alike n rows lim other cones same l =
+    located_less n rows other lim cones (λ q v d hq low high e. same q v hq low high ∙ e) l
+
+module _ (n : ℕ) (rows : List Shown) (x : ℕ) (lim : Limits) where
+  without_other : (q v : ℕ) → (v ≡ x → ⊥) → without x lim q v ≡ lim q v
+  without_other q v d = cond-false (eqb v x) None (lim q v) (ne_eqb v x d)
+
+  without_same : (q v : ℕ) → v ≡ x → without x lim q v ≡ None
+  without_same q v e = cond-true (eqb v x) None (lim q v) (eq-eqb v x e)
+
+  without_among : AmongLimits n rows (without x lim) lim
+  without_among q v d hq low high e = elim (cases_eq v x) [
+    | inl s ↦ some_none d (sym (without_same q v s) ∙ e)
+    | inr o ↦ sym (without_other q v o) ∙ e
+  ]
+
+  -- only x can take a product out of its cone
+  pub cone_stays : n ≤ 8 → (s v d : ℕ) (u : Shown) → (v ≡ x → ⊥) → InCone n rows (without x lim) s (times u v d) →
+      ((m : ℕ) → lim s x ≡ Some m → exponent u x < exponent (row rows s) x + m) → InCone n rows lim s (times u v d)
+  cone_stays few s v d u other c within = record {
+    place = c.place;
+    divides = c.divides;
+    multiplier = λ y m low high e. elim (cases_eq y x) [
+      | inl is ↦ (let r : Variable y = record { low = low; high = omega arith } in
+          let same : raised u v d y ≡ exponent u y + 0 = ap (λ (b : ℕ). exponent u y + b) (cond-false (eqb y v) d 0 (ne_eqb y v (λ z. other (sym z ∙ is)))) in
+          let here : exponent u y < exponent (row rows s) y + m = rw is (within m (ap (λ (z : ℕ). lim s z) (sym is) ∙ e)) in
+          omega (arith, quotient_at (row rows s) (times u v d) y r, times_at u v d y r, same, here, c.divides.smaller y))
+      | inr o ↦ c.multiplier y m low high (without_other s y o ∙ e)
+    ];
+  }
+
+-- what is written is read, and the rest is as it was
+module _ (cones : List (List ℕ)) (p v s : ℕ) (inside : p < length cones) (wide : (q : ℕ) → length (cones_at cones q) ≡ 8) (low : 1 ≤ v) (high : v ≤ 8) where
+  written : List (List ℕ)
+  written = set cones p (set (get_or cones p []) (v - 1) s)
+
+  row_here : cones_at written p ≡ set (cones_at cones p) (v - 1) s
+  unfolding written
+  row_here = get_or-set_same cones p (set (get_or cones p []) (v - 1) s) (replicate 8 0) inside ∙ ap (λ xs. set xs (v - 1) s) (get_or_default cones p [] (replicate 8 0) inside)
+
+  row_other : (q : ℕ) → (q ≡ p → ⊥) → cones_at written q ≡ cones_at cones q
+  unfolding written
+  row_other q d = get_or-set_other cones p q (set (get_or cones p []) (v - 1) s) (replicate 8 0) d
+
+  written_wide : (q : ℕ) → length (cones_at written q) ≡ 8
+  written_wide q = elim (cases_eq q p) [
+    | inl e ↦ rw e (ap length row_here ∙ length-set (cones_at cones p) (v - 1) s ∙ wide p)
+    | inr d ↦ ap length (row_other q d) ∙ wide q
+  ]
+
+  written_here : cone_at written p v ≡ s
+  written_here = ap (λ xs. get_or xs (v - 1) 0) row_here ∙ get_or-set_same (cones_at cones p) (v - 1) s 0 (omega (arith, wide p))
+
+  written_other : (q w : ℕ) → 1 ≤ w → ((q ≡ p) × (w ≡ v) → ⊥) → cone_at written q w ≡ cone_at cones q w
+  written_other q w some d = elim (cases_eq q p) [
+    | inl e ↦ rw e (ap (λ xs. get_or xs (w - 1) 0) row_here ∙ get_or-set_other (cones_at cones p) (v - 1) (w - 1) s 0 (λ z. d (e, omega arith)))
+    | inr o ↦ ap (λ xs. get_or xs (w - 1) 0) (row_other q o)
+  ]
+
+-- the products of the rows before place p, and of the row there with the variables below v, are in the cones that the table tells
+pub record Going (n : ℕ) (rows : List Shown) (x : ℕ) (lim : Limits) (p v : ℕ) (cones : List (List ℕ)) : Type 0 where
+  pub long : length cones ≡ 64
+  pub others : Located n rows (without x lim) cones
+  pub done : (q w d : ℕ) → (q < p) ⊎ ((q ≡ p) × (w < v)) → q < length rows → 1 ≤ w → w ≤ n → lim q w ≡ Some d → InCone n rows lim (cone_at cones q w) (times (row rows q) w d)
+
+module _ (n : ℕ) (rows : List Shown) (x : ℕ) (lim : Limits) where
+  pub going_start : (cones : List (List ℕ)) → length cones ≡ 64 → Located n rows (without x lim) cones → Going n rows x lim 0 1 cones
+  going_start cones long l = record {
+    long = long;
+    others = l;
+    done = λ q w d h hq low high e. elim h [ inl a ↦ absurd (omega arith) | inr b ↦ absurd (omega (arith, b.1)) ];
+  }
+
+  module _ (p v : ℕ) (cones : List (List ℕ)) (g : Going n rows x lim p v cones) where
+    -- no limit here
+    pub going_past : lim p v ≡ None → Going n rows x lim p (v + 1) cones
+    going_past none = record {
+      long = g.long;
+      others = g.others;
+      done = λ q w d h hq low high e. elim h [
+        | inl a ↦ g.done q w d (inl a) hq low high e
+        | inr b ↦ elim (cases_eq w v) [
+          | inl z ↦ some_none d (sym none ∙ ap (λ (i : ℕ). lim i v) (sym b.0) ∙ ap (λ (i : ℕ). lim q i) (sym z) ∙ e)
+          | inr o ↦ g.done q w d (inr (b.0, omega (arith, b.1))) hq low high e
+        ]
+      ];
+    }
+
+    -- a cone is found
+    going_on : (d s : ℕ) → p < length cones → 1 ≤ v → v ≤ 8 → lim p v ≡ Some d → InCone n rows lim s (times (row rows p) v d) →
+        Going n rows x lim p (v + 1) (set cones p (set (get_or cones p []) (v - 1) s))
+    unfolding written
+    going_on d s inside low high is cone = record {
+      long = length-set cones p (set (get_or cones p []) (v - 1) s) ∙ g.long;
+      others = record {
+        wide = written_wide cones p v s inside g.others.wide low high;
+        cone = λ q w k hq some most e. elim (cases_eq q p) [
+          | inl a ↦ elim (cases_eq w v) [
+            | inl b ↦ here_others q w k a b (without_among n rows x lim q w k hq some most e)
+            | inr b ↦ rw (written_other cones p v s inside g.others.wide low high q w some (λ z. b z.1)) (g.others.cone q w k hq some most e)
+          ]
+          | inr a ↦ rw (written_other cones p v s inside g.others.wide low high q w some (λ z. a z.0)) (g.others.cone q w k hq some most e)
+        ];
+      };
+      done = λ q w k h hq some most e. elim (cases_eq q p) [
+        | inl a ↦ elim (cases_eq w v) [
+          | inl b ↦ here q w k a b e
+          | inr b ↦ rw (written_other cones p v s inside g.others.wide low high q w some (λ z. b z.1))
+              (g.done q w k (elim h [ inl l ↦ inl l | inr l ↦ inr (l.0, omega (arith, l.1)) ]) hq some most e)
+        ]
+        | inr a ↦ rw (written_other cones p v s inside g.others.wide low high q w some (λ z. a z.0))
+            (g.done q w k (elim h [ inl l ↦ inl l | inr l ↦ absurd (a l.0) ]) hq some most e)
+      ];
+    }
+      where
+        here : (q w k : ℕ) → q ≡ p → w ≡ v → lim q w ≡ Some k → InCone n rows lim (cone_at (written cones p v s inside g.others.wide low high) q w) (times (row rows q) w k)
+        here q w k a b e =
+            let same : d ≡ k = cc (rw (a, b) at e, is) in
+            rw (a, b, written_here cones p v s inside g.others.wide low high, sym same) cone
+
+        here_others : (q w k : ℕ) → q ≡ p → w ≡ v → lim q w ≡ Some k → InCone n rows (without x lim) (cone_at (written cones p v s inside g.others.wide low high) q w) (times (row rows q) w k)
+        here_others q w k a b e = cone_less n rows (without x lim) lim (without_among n rows x lim) _ _ (here q w k a b e)
+
+    -- where variable v has limit d at the row u of place p
+    module _ (d : ℕ) (u : Shown) (here : row rows p ≡ u) (l : p < length rows) (few : length rows ≤ 64) (low : 1 ≤ v) (high : v ≤ n) (most : n ≤ 8) (is : lim p v ≡ Some d) where
+      -- the place that the table tells holds the product by the limits of the others
+      abbrev Told : Type 0
+      Told = (v ≡ x → ⊥) → InCone n rows (without x lim) (get_or (get_or cones p []) (v - 1) 0) (times u v d)
+
+      told : Told
+      told other =
+          let inside : p < length cones = omega (arith, g.long) in
+          rw (get_or_default cones p [] (replicate 8 0) inside, ← here) (g.others.cone p v d l low high (without_other n rows x lim p v other ∙ is))
+
+      -- and so a cone is found by all limits
+      going_held : (s : ℕ) → (Told → InCone n rows lim s (times u v d)) → Going n rows x lim p (v + 1) (set cones p (set (get_or cones p []) (v - 1) s))
+      going_held s found = going_on d s (omega (arith, g.long)) low (omega arith) is (rw here (found told))
+
+      -- or none holds the product
+      going_ended : (Told → (s : ℕ) → InCone n rows lim s (times u v d) → ⊥) → Relocated n rows x lim false cones
+      going_ended none = record {
+        told = (λ t. absurd (false≢true t), λ all. absurd (all p v d (record { place = l; low = low; high = high; limit = is; outside = rw here (none told) })));
+        others = g.others;
+        all = λ t. absurd (false≢true t);
+      }
+
+    -- the variables are through
+    pub going_next : n < v → Going n rows x lim (p + 1) 1 cones
+    going_next through = record {
+      long = g.long;
+      others = g.others;
+      done = λ q w d h hq low high e. g.done q w d (elim h [
+        | inl a ↦ elim (cases_eq q p) [ inl z ↦ inr (z, omega arith) | inr o ↦ inl (omega arith) ]
+        | inr b ↦ absurd (omega (arith, b.1))
+      ]) hq low high e;
+    }
+
+    -- the rows are through
+    pub going_done : length rows ≤ p → Relocated n rows x lim true cones
+    going_done through = record {
+      told = (λ _ q w d short. short.outside (cone_at cones q w) (g.done q w d (inl (omega (arith, short.place))) short.place short.low short.high short.limit), λ _. refl);
+      others = g.others;
+      all = λ _. record { wide = g.others.wide; cone = λ q w d hq low high e. g.done q w d (inl (omega arith)) hq low high e };
+    }
+
+-- where variable v has limit d at the row of place p, as the code reads it
+module _ {E : Type 0} (shown : E → Shown) (items : List E) (n x : ℕ) (lim : Limits) (p v : ℕ) (cones : List (List ℕ)) (g : Going n (map shown items) x lim p v cones)
+    (d : ℕ) (item : E) (at : p < length items) (read : item ≡ get_or items p item) (few : length items ≤ 64) (low : 1 ≤ v) (high : v ≤ n) (most : n ≤ 8) (is : lim p v ≡ Some d) where
+  here : row (map shown items) p ≡ shown item
+  here = row_read shown items p item at read
+
+  l : p < length (map shown items)
+  l = omega (arith, at, length-map items shown)
+
+  all : length (map shown items) ≤ 64
+  all = omega (arith, few, length-map items shown)
+
+  -- a cone is found, if one is wherever the place that the table tells holds the product by the limits of the others
+  pub cone_found : (s : ℕ) → (((v ≡ x → ⊥) → InCone n (map shown items) (without x lim) (get_or (get_or cones p []) (v - 1) 0) (times (shown item) v d)) → InCone n (map shown items) lim s (times (shown item) v d)) →
+      Going n (map shown items) x lim p (v + 1) (set cones p (set (get_or cones p []) (v - 1) s))
+  cone_found s found = going_held n (map shown items) x lim p v cones g d (shown item) here l all low high most is s found
+
+  -- or none is
+  pub none_found : (((v ≡ x → ⊥) → InCone n (map shown items) (without x lim) (get_or (get_or cones p []) (v - 1) 0) (times (shown item) v d)) → (s : ℕ) → InCone n (map shown items) lim s (times (shown item) v d) → ⊥) →
+      Relocated n (map shown items) x lim false cones
+  none_found none = going_ended n (map shown items) x lim p v cones g d (shown item) here l all low high most is none

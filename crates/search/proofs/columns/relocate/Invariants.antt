@@ -1,0 +1,18 @@
+use Rattle.std.proofs.Common.{map}
+use Rattle.cones.specs.Tables.{limits_of}
+use Rattle.search.specs.Columns.{Located, without}
+use Rattle.search.proofs.Locating.{Going}
+use Rattle.search.proofs.columns.relocate.Given as goal
+
+-- the products so far are in the cones that the table tells
+abbrev pub invariant-loop-variable : goal.invariant-loop-variable
+invariant-loop-variable g l =
+    let rows = map g.E.Element.shown l.limited.rows.now in
+    let lim = limits_of l.limited.limits.now in
+    Located l.limited.n rows (without l.x lim) l.fn.cones → Going l.limited.n rows l.x lim l.place l.variable l.cones
+
+abbrev pub invariant-loop-place : goal.invariant-loop-place
+invariant-loop-place g l =
+    let rows = map g.E.Element.shown l.limited.rows.now in
+    let lim = limits_of l.limited.limits.now in
+    Located l.limited.n rows (without l.x lim) l.fn.cones → Going l.limited.n rows l.x lim l.place 1 l.cones
