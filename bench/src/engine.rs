@@ -110,9 +110,11 @@ impl Handed {
         assert_eq!(made, 1, "the engine found no memory");
     }
 
-    pub fn settle(&self, division: Division) -> Found {
-        let mut answers = [u64::MAX; 10];
+    /// Settled so many times, and opened again in between; all answers have to be the same.
+    pub fn settles(&self, division: Division, times: usize) -> Found {
+        let mut answers = vec![u64::MAX; 10 * times];
         self.ask(pilvecsa_settle, division, &mut answers);
+        assert!(answers.chunks(10).all(|answer| answer == &answers[..10]));
         let tested = answers[0] as u32;
         let ordering = match answers[9] {
             0 => Some(

@@ -75,7 +75,7 @@ fn targets(random: &mut Random, rows: &[Row], n: usize, count: usize) -> Vec<Row
 /// Fails unless all ways give the same answers to settle, verdict and locate. Gives settle's.
 fn agree(rows: &[Row], n: usize, division: Division, targets: &[Row]) -> Found {
     let mut sheet = Sheet::new(rows, n);
-    let by_engine = Handed::new(&sheet).settle(division);
+    let by_engine = Handed::new(&sheet).settles(division, 2);
     let by_all = sheet.clone().settle_by_trying_all(division);
     let by_newest = sheet.clone().settle(division, Test::Newest);
     let found = sheet.settle(division, Test::Every);
@@ -112,13 +112,17 @@ fn measure(rows: &[Row], n: usize, division: Division) -> Case {
     let found = agree(rows, n, division, &targets);
     let open = Sheet::new(rows, n);
     let handed = Handed::new(&open);
+    // many at a time, so that the making of the engine's sheet weighs little
+    let settles = (20_000 / (found.tested as usize * rows.len())).clamp(1, 64);
     let plain = |test| {
         let mut sheet = black_box(&open).clone();
-        black_box(sheet.settle(division, test));
+        for _ in 0..settles {
+            black_box(black_box(&mut sheet).settle(division, test));
+        }
     };
-    let settle = time([
+    let [engine, every, newest, all] = time([
         &mut || {
-            black_box(black_box(&handed).settle(division));
+            black_box(black_box(&handed).settles(division, settles));
         },
         &mut || plain(Test::Every),
         &mut || plain(Test::Newest),
@@ -127,12 +131,13 @@ fn measure(rows: &[Row], n: usize, division: Division) -> Case {
             black_box(sheet.settle_by_trying_all(division));
         },
     ]);
+    let [engine, every, newest] = [engine, every, newest].map(|time| time / settles as u32);
+    let settle = [engine, every, newest, all];
     let mut sheet = open.clone();
     if let Some(ordering) = &found.ordering {
         sheet.order.clone_from(ordering);
     }
     let handed = Handed::new(&sheet);
-    // many at a time, so that the making of the engine's sheet weighs little
     const TIMES: usize = 64;
     let verdict = time([
         &mut || {
@@ -206,7 +211,7 @@ fn main() {
         black_box(black_box(&blank).make());
     }]);
     println!(
-        "Making the engine's sheet of 64 places takes {}, which its times of settle include.\n",
+        "Making the engine's sheet of 64 places takes {}. It is made once for many calls.\n",
         shown(making)
     );
     println!(

@@ -1,9 +1,9 @@
 -- Limits as the code reads them. Assumes nothing.
-use Rattle.std.proofs.Common.{◌≡◌, ℕ, zero, suc, ◌+◌, ◌-◌, ◌<◌, ◌≤◌, Bool, true, false, ◌&&◌, ltb, List, [], ◌∷◌, ◌++◌, take, map, length, get_or, Some, None, MatchOption, Decides, Option, sym, refl, ◌∙◌, inl, inr, arith, length-append}
-use Rattle.std.specs.List.{list_all, zip, enumerate_from, range_with_len, AllWithin, HoldsAt}
-use Rattle.std.proofs.lemmas.List.FromFn.{length-enumerate_from, get_or-enumerate_from, length-range_with_len, get_or-range_with_len}
+use Rattle.std.proofs.Common.{◌≡◌, ℕ, zero, suc, ◌+◌, ◌<◌, ◌≤◌, Bool, true, false, ◌&&◌, ltb, List, [], ◌∷◌, take, map, length, get_or, Some, None, MatchOption, Decides, Option, sym, refl, ◌∙◌, inl, inr, arith}
+use Rattle.std.specs.List.{list_all, zip, enumerate_from, AllWithin, HoldsAt}
+use Rattle.std.proofs.lemmas.List.FromFn.{length-enumerate_from, get_or-enumerate_from}
 use Rattle.std.specs.Option.{option_map_or}
-use Rattle.std.proofs.lemmas.List.{get_or_past, get_or_default, length-map, get_or_append_left, get_or-append_right}
+use Rattle.std.proofs.lemmas.List.{get_or_past, get_or_default, length-map}
 use Rattle.std.proofs.lemmas.Bool.{cases_lt, ltb-true, lt-ltb}
 use Rattle.std.proofs.lemmas.Bool.Decides.{not_from_Decides, Decides-and, Decides-like}
 use Rattle.elements.specs.Element.{Shown, Divides, times, quotient, Variable}
@@ -149,36 +149,3 @@ pub unlimited : (n : ℕ) (rows : List Shown) (table : List (List (Option ℕ)))
     xs ≡ limits_at table p → o ≡ limit_in xs v → o ≡ None → (k : ℕ) → Shortfall n rows (limits_of table) p v k → ⊥
 unlimited n rows table p v xs o limits read none k short =
     let some : limit_in xs v ≡ Some k = rw limits short.limit in let z : ◌≡◌ {A = ℕ} 0 1 = cc in omega arith
-
--- what the code finds among all places when it begins at one of them
-module _ (In : ℕ → Type 0) (count first : ℕ) (start : first ≤ count) (places : (s : ℕ) → In s → s < count) where
-  around : List ℕ
-  around = range_with_len first (count - first) ++ range_with_len 0 first
-
-  stands : (s : ℕ) → s < count → (i : ℕ) × (i < length around) × (get_or around i 0 ≡ s)
-  unfolding around
-  stands s l =
-      let back = length-range_with_len first (count - first) in
-      let front = length-range_with_len 0 first in
-      let long = length-append (range_with_len first (count - first)) (range_with_len 0 first) in
-      elim (cases_lt s first) [
-        | inl h ↦ (
-          count - first + s,
-          omega (arith, back, front, long),
-          get_or-append_right (range_with_len first (count - first)) (range_with_len 0 first) (count - first) (count - first + s) 0 back (omega arith) ∙
-              get_or-range_with_len 0 first (count - first + s - (count - first)) 0 (omega arith) ∙ omega arith,
-        )
-        | inr h ↦ (
-          s - first,
-          omega (arith, back, front, long),
-          get_or_append_left (range_with_len first (count - first)) (range_with_len 0 first) 0 (s - first) (omega (arith, back)) ∙
-              get_or-range_with_len first (count - first) (s - first) 0 (omega arith) ∙ omega arith,
-        )
-      ]
-
-  pub found_around : (r : Option ℕ) → MatchOption r (AllWithin (λ s. In s → ⊥) (range_with_len first (count - first) ++ range_with_len 0 first) 0 (length (range_with_len first (count - first) ++ range_with_len 0 first)))
-      (λ s. In s × (i : ℕ) × (i < length (range_with_len first (count - first) ++ range_with_len 0 first)) × HoldsAt (λ y. y ≡ s) (range_with_len first (count - first) ++ range_with_len 0 first) i × AllWithin (λ s. In s → ⊥) (range_with_len first (count - first) ++ range_with_len 0 first) 0 i) →
-      MatchOption r ((s : ℕ) → In s → ⊥) In
-  unfolding around
-  found_around None none = λ s h. let (i, l, e) = stands s (places s h) in none i 0 (omega arith) l (rw e h)
-  found_around (Some s) h = h.0

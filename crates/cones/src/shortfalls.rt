@@ -21,20 +21,19 @@ impl<E: Element> Limited<'_, E> {
     fn falls_short(&self, row: &E, variable: u8, power: u16) -> bool
         ensures { Decides result ((s : ℕ) → InCone self.now.n (map E.Element.shown self.now.rows.now) (limits_of self.now.limits.now) s (times (E.Element.shown row.now) variable power) → ⊥) }
     {
-        let product = Shape::of_product(row, variable, power);
-        self.cone_of_shape(&product).is_none()
+        self.cone_of_shape(&Shape::of_product(row, variable, power))
+            .is_none()
     }
 
-    // The place of a row whose cone holds a row times a power of a variable. The cone of the guess is looked at first, then those after it.
+    // The place of a row whose cone holds a row times a power of a variable. The cone of the guess is looked at first.
     pub fn cone_of_product(&self, row: &E, variable: u8, power: u16, guess: usize) -> Option<usize>
         ensures { MatchOption result ((s : ℕ) → InCone self.now.n (map E.Element.shown self.now.rows.now) (limits_of self.now.limits.now) s (times (E.Element.shown row.now) variable power) → ⊥) (λ s. InCone self.now.n (map E.Element.shown self.now.rows.now) (limits_of self.now.limits.now) s (times (E.Element.shown row.now) variable power)) }
     {
         let product = Shape::of_product(row, variable, power);
-        let count = self.rows.len();
-        let first = guess.min(count);
-        (first..count)
-            .chain(0..first)
-            .find(|place| self.holds_at(*place, &product))
+        if self.holds_at(guess, &product) {
+            return Some(guess);
+        }
+        self.cone_of_shape(&product)
     }
 
     // The first shortfall: at the lowest place and, there, in the lowest variable. Where limits separate the rows these are
