@@ -4,3 +4,5 @@ pub mod Least
 pub mod Gaps
 pub mod Found
 pub mod Count
+pub mod Walks
+pub mod Levels

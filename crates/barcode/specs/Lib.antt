@@ -1,2 +1,3 @@
 pub mod Bars
 pub mod Gap
+pub mod Kept

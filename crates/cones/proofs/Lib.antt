@@ -6,3 +6,4 @@ pub mod Alike
 pub mod Obtained
 pub mod Places
 pub mod Wider
+pub mod Sought

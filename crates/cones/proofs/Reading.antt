@@ -6,11 +6,11 @@ use Rattle.std.specs.Option.{option_map_or}
 use Rattle.std.proofs.lemmas.List.{get_or_past, get_or_default, length-map}
 use Rattle.std.proofs.lemmas.Bool.{cases_lt, ltb-true, lt-ltb}
 use Rattle.std.proofs.lemmas.Bool.Decides.{not_from_Decides, Decides-and, Decides-like}
-use Rattle.elements.specs.Element.{Shown, Divides, times, quotient, Variable}
+use Rattle.elements.specs.Element.{Shown, Divides, times, Variable}
 use Rattle.orderings.specs.Rows.{row}
 use Rattle.orderings.proofs.Places.{row_read}
-use Rattle.cones.specs.Cones.{Within, Holds, InCone, Shortfall}
-use Rattle.cones.specs.Tables.{limit_in, limits_at, limits_of}
+use Rattle.cones.specs.Cones.{Holds, InCone, Shortfall}
+use Rattle.cones.specs.Tables.{limit_in, limits_at, limits_of, BelowLimits}
 use Rattle.cones.proofs.Products.{quotient_at}
 
 -- a variable past the end has no limit
@@ -52,25 +52,26 @@ places_fit (suc n) (c ∷ cs) (d ∷ ds) (x ∷ xs) first second =
     each h zero m l e = h.0 m e
     each h (suc k) m l e = h.1 k m (omega arith) e
 
--- the quotient of a row u that divides w is a multiplier exactly where the first n places fit
+-- the first n places fit exactly where the exponents are below the limits
 module _ (n : ℕ) (xs : List (Option ℕ)) (u w : Shown) (a : List ℕ) (is : a ≡ u.exponents) (long : length a ≡ 8) (eight : length xs ≡ 8) (wide : length w.exponents ≡ 8) where
-  within : Divides u w → ((k m : ℕ) → k < n → get_or xs k None ≡ Some m → get_or w.exponents k 0 < get_or a k 0 + m) → Within n (limit_in xs) (quotient u w)
-  within d h zero m low high e = absurd (omega arith)
-  within d h (suc k) m low high e =
-      let r : Variable (suc k) = record { low = low; high = omega (arith, limit_high xs (suc k) m e) } in
-      omega (arith, quotient_at u w (suc k) r, d.smaller (suc k), rw is at (h k m (omega arith) e))
+  below : ((k m : ℕ) → k < n → get_or xs k None ≡ Some m → get_or w.exponents k 0 < get_or a k 0 + m) → BelowLimits n xs u w
+  below h zero m low high e = absurd (omega arith)
+  below h (suc k) m low high e = rw is at (h k m (omega arith) e)
 
-  fitting : Divides u w → Within n (limit_in xs) (quotient u w) → (k m : ℕ) → k < n → get_or xs k None ≡ Some m → get_or w.exponents k 0 < get_or a k 0 + m
-  fitting d h k m l e =
-      let r : Variable (suc k) = record { low = omega arith; high = omega (arith, limit_high xs (suc k) m e) } in
-      rw is (omega (arith, quotient_at u w (suc k) r, d.smaller (suc k), h (suc k) m (omega arith) (omega arith) e))
-
-  pub held : (r : Bool) → Divides u w → r ≡ list_all fits (take n (zip (zip a w.exponents) xs)) → Decides r (Holds n (limit_in xs) u w)
-  held r d told =
+  pub below_told : (r : Bool) → r ≡ list_all fits (take n (zip (zip a w.exponents) xs)) → Decides r (BelowLimits n xs u w)
+  below_told r told =
       let decided = places_fit n a w.exponents xs (long ∙ sym eight) (wide ∙ sym eight) in (
-        λ e. (d, within d (decided.0 (sym told ∙ e))),
-        λ h. told ∙ decided.1 (fitting d h.1),
+        λ e. below (decided.0 (sym told ∙ e)),
+        λ h. told ∙ decided.1 (λ k m l e. rw is (h (suc k) m (omega arith) (omega arith) e)),
       )
+
+-- a row that divides w holds it exactly where the exponents are below the limits
+module _ (n : ℕ) (xs : List (Option ℕ)) (u w : Shown) (eight : length xs ≡ 8) where
+  pub held : Divides u w → BelowLimits n xs u w → Holds n (limit_in xs) u w
+  held d h = (d, λ v m low high e. let r : Variable v = record { low = low; high = omega (arith, limit_high xs v m e) } in omega (arith, quotient_at u w v r, d.smaller v, h v m low high e))
+
+  pub below_held : Holds n (limit_in xs) u w → BelowLimits n xs u w
+  below_held h v m low high e = let r : Variable v = record { low = low; high = omega (arith, limit_high xs v m e) } in omega (arith, quotient_at u w v r, h.0.smaller v, h.1 v m low high e)
 
 -- what the code reads at a place: an element and its limits
 module _ {E : Type 0} (shown : E → Shown) (n : ℕ) (rows : List E) (table : List (List (Option ℕ))) (p : ℕ) (x : E) (xs : List (Option ℕ))

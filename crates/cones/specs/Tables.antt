@@ -1,5 +1,6 @@
 -- How a table of limits is read: a list for each row, with an entry for each of eight variables. Assumes nothing.
-use Rattle.std.specs.Prelude.{◌≡◌, ℕ, ◌<◌, ◌≤◌, List, ◌∷◌, replicate, None, Option, slice_index_or}
+use Rattle.std.specs.Prelude.{◌≡◌, ℕ, ◌+◌, ◌<◌, ◌≤◌, List, ◌∷◌, replicate, Some, None, Option, slice_index_or}
+use Rattle.elements.specs.Element.{Shown, exponent}
 use Rattle.cones.specs.Cones.{Limits}
 
 -- the limit of variable v, which counts from 1, in a row's list; none where there is no such variable
@@ -13,6 +14,10 @@ limits_at table p = slice_index_or table p (replicate 8 None)
 -- the limits that a table sets
 abbrev pub limits_of : List (List (Option ℕ)) → Limits
 limits_of table p v = limit_in (limits_at table p) v
+
+-- in each of the variables 1 to n that has a limit, the exponent of w is below that of u and the limit together
+abbrev pub BelowLimits : ℕ → List (Option ℕ) → Shown → Shown → Type 0
+BelowLimits n limits u w = (v m : ℕ) → 1 ≤ v → v ≤ n → limit_in limits v ≡ Some m → exponent w v < exponent u v + m
 
 -- a row's limits are those that f gives variables 1 to n, of which there are eight at most; no other variable has one
 pub record LimitsFrom (n : ℕ) (f : ℕ → Option ℕ) (limits : List (Option ℕ)) : Type 0 where

@@ -3,7 +3,7 @@ ghost use Rattle.std.specs.Prelude.{◌≡◌, ℕ, ◌+◌, ◌<◌, ◌≤◌,
 ghost use Rattle.elements.specs.Element.{exponent};
 ghost use Rattle.orderings.specs.Rows.{row as row_at};
 ghost use Rattle.cones.specs.Cones.{Holds, InCone, ConesAreDisjoint, TheConeIsOfTheGreatestDivisor};
-ghost use Rattle.cones.specs.Tables.{limit_in, limits_of};
+ghost use Rattle.cones.specs.Tables.{limit_in, limits_of, BelowLimits};
 
 use crate::shapes::*;
 use crate::tables::*;
@@ -18,21 +18,33 @@ pub struct Limited<'a, E> {
     pub n: u8,
 }
 
+// Whether the exponents of a shape, of variables 1 to n, are below the row's and the limits together.
+fn is_below<E: Element>(row: &E, limits: &Limits, n: u8, shape: &Shape) -> bool
+    ensures { Decides result (BelowLimits n limits.now (E.Element.shown row.now) (record { family = shape.now.family; exponents = shape.now.exponents })) }
+{
+    row.exponents()
+        .iter()
+        .zip(shape.exponents.iter())
+        .zip(limits.iter())
+        .take(n as usize)
+        .all(|((least, given), limit)| {
+            limit.is_none_or(|most| *given < u32::from(*least) + u32::from(most))
+        })
+}
+
 // Whether a shape lies in the cone of a row with these limits of variables 1 to n: the row divides it, and each exponent
 // of a variable with a limit is below the row's and the limit together. The quotient is not made.
 fn holds<E: Element>(row: &E, limits: &Limits, n: u8, shape: &Shape) -> bool
     ensures { Decides result (Holds n (limit_in limits.now) (E.Element.shown row.now) (record { family = shape.now.family; exponents = shape.now.exponents })) }
 {
-    shape.is_multiple_of(row)
-        && row
-            .exponents()
-            .iter()
-            .zip(shape.exponents.iter())
-            .zip(limits.iter())
-            .take(n as usize)
-            .all(|((least, given), limit)| {
-                limit.is_none_or(|most| *given < u32::from(*least) + u32::from(most))
-            })
+    shape.is_multiple_of(row) && is_below(row, limits, n, shape)
+}
+
+// The same, by the limits first: quicker where the row is likely to divide the shape.
+fn holds_by_limits<E: Element>(row: &E, limits: &Limits, n: u8, shape: &Shape) -> bool
+    ensures { Decides result (Holds n (limit_in limits.now) (E.Element.shown row.now) (record { family = shape.now.family; exponents = shape.now.exponents })) }
+{
+    is_below(row, limits, n, shape) && shape.is_multiple_of(row)
 }
 
 // Whether the element lies in the cone of a row with these limits of variables 1 to n: the quotient is below each of them.
@@ -73,6 +85,16 @@ impl<E: Element> Limited<'_, E> {
             return false;
         };
         holds(row, lent_limits(self.limits, place), self.n, shape)
+    }
+
+    // The same, for a place whose row is likely to divide the shape.
+    pub(crate) fn holds_at_by_limits(&self, place: usize, shape: &Shape) -> bool
+        ensures { Decides result (InCone self.now.n (map E.Element.shown self.now.rows.now) (limits_of self.now.limits.now) place (record { family = shape.now.family; exponents = shape.now.exponents })) }
+    {
+        let Some(row) = self.rows.get(place) else {
+            return false;
+        };
+        holds_by_limits(row, lent_limits(self.limits, place), self.n, shape)
     }
 
     // The first place whose cone holds a shape.

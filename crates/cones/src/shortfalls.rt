@@ -1,12 +1,14 @@
 // Whether rows are complete.
-ghost use Rattle.std.specs.Prelude.{ℕ, map, Decides, MatchOption};
+ghost use Rattle.std.specs.Prelude.{◌≡◌, ℕ, true, map, Decides, MatchOption};
 ghost use Rattle.elements.specs.Element.{times};
+ghost use Rattle.places.specs.Places.{among};
 ghost use Rattle.cones.specs.Cones.{InCone, Shortfall, FirstShortfall, CompleteExactlyWithoutShortfall, JanetLikeCompletesWhatAnyCompletes};
 ghost use Rattle.cones.specs.Tables.{limits_of};
 
 use crate::holding::*;
 use crate::shapes::*;
 use elements::Element;
+use places::Places;
 
 // The row at a place, times a power of a variable that is limited there, lies in no cone.
 #[derive(Clone, Copy, PartialEq, Eq, Debug)]
@@ -34,6 +36,30 @@ impl<E: Element> Limited<'_, E> {
             return Some(guess);
         }
         self.cone_of_shape(&product)
+    }
+
+    // The same, where only the cones of the guess and of these places are looked at.
+    pub fn cone_among(
+        &self,
+        places: Places,
+        row: &E,
+        variable: u8,
+        power: u16,
+        guess: usize,
+    ) -> Option<usize>
+        ensures { MatchOption result ((s : ℕ) → among places.bits s ≡ true → InCone self.now.n (map E.Element.shown self.now.rows.now) (limits_of self.now.limits.now) s (times (E.Element.shown row.now) variable power) → ⊥) (λ s. InCone self.now.n (map E.Element.shown self.now.rows.now) (limits_of self.now.limits.now) s (times (E.Element.shown row.now) variable power)) }
+    {
+        let sought = Shape::of_product(row, variable, power);
+        if self.holds_at_by_limits(guess, &sought) {
+            return Some(guess);
+        }
+        let mut left = places;
+        while let Some(place) = left.take_first() {
+            if self.holds_at_by_limits(place, &sought) {
+                return Some(place);
+            }
+        }
+        None
     }
 
     // The first shortfall: at the lowest place and, there, in the lowest variable. Where limits separate the rows these are

@@ -12,3 +12,4 @@ pub mod Locating
 pub mod Extending
 pub mod Walk
 pub mod Stepping
+pub mod Dividing

@@ -3,3 +3,4 @@ pub mod Walks
 pub mod Liveness
 pub mod Columns
 pub mod Theorems
+pub mod Divisors

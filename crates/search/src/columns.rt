@@ -1,13 +1,15 @@
 // The limits of a prefix's variables, in a table with a column for each of eight variables, and where the products with these lie.
-ghost use Rattle.std.specs.Prelude.{ℕ, ◌-◌, ◌≤◌, ◌≢◌, map, length, take, None, MatchOption};
+ghost use Rattle.std.specs.Prelude.{◌≡◌, ℕ, ◌-◌, ◌<◌, ◌≤◌, ◌≢◌, map, length, take, None, MatchOption, IfSome};
 ghost use Rattle.elements.specs.Element.{times};
+ghost use Rattle.orderings.specs.Rows.{row as row_at};
 ghost use Rattle.cones.specs.Cones.{InCone};
 ghost use Rattle.cones.specs.Tables.{limits_of};
 ghost use Rattle.search.specs.Liveness.{RowsOfSheet, prefix_limits};
 ghost use Rattle.search.specs.Columns.{Written, Tabled, Located, without, Relocated, Extended};
 
+use crate::keeping::*;
 use crate::prefixes::*;
-use barcode::Ranked;
+use barcode::{Bars, Ranked};
 use cones::holding::Limited;
 use cones::tables::Limits;
 use divisions::Division;
@@ -33,6 +35,46 @@ fn fill_column<E: Element, D: Division>(
     }
 }
 
+// The same, by what is known of the bars.
+fn fill_column_by_bars<E: Element, D: Division>(
+    table: &mut [Limits; 64],
+    division: &D,
+    bars: &Bars<E>,
+    order: &[u8],
+    x: u8,
+)
+    requires places { length bars.now.rows.now ≤ 64 }
+    requires column { (1 ≤ x) × (x ≤ 8) }
+    ensures { Written (λ q. D.Division.meaning division.now (map E.Element.shown bars.now.rows.now) order.now q x) x (length bars.now.rows.now) table.old table.new }
+{
+    fill_column(table, division, &bars.ranked(order), x);
+}
+
+// The same, for the rows under an ordering; `above` is how many variables it lists before x.
+fn write_column<E: Element, D: Division>(
+    table: &mut [Limits; 64],
+    kept: &mut Option<Kept<E>>,
+    division: &D,
+    rows: &[E],
+    order: &[u8],
+    above: usize,
+    x: u8,
+)
+    requires places { length rows.now ≤ 64 }
+    requires column { (1 ≤ x) × (x ≤ 8) }
+    requires kept { IfSome kept.old (λ k. k.bars.rows.now ≡ rows.now) }
+    ensures column { Written (λ q. D.Division.meaning division.now (map E.Element.shown rows.now) order.now q x) x (length rows.now) table.old table.new }
+    ensures kept { IfSome kept.new (λ k. k.bars.rows.now ≡ rows.now) }
+{
+    match kept {
+        None => fill_column(table, division, &Ranked::new(rows, order), x),
+        Some(kept) => {
+            kept.bars.learn(order, above);
+            fill_column_by_bars(table, division, &kept.bars, order, x);
+        }
+    }
+}
+
 // Takes the limits of variable x out again, at so many rows.
 pub(crate) fn clear_column(table: &mut [Limits; 64], count: usize, x: u8)
     requires places { count ≤ 64 }
@@ -44,10 +86,37 @@ pub(crate) fn clear_column(table: &mut [Limits; 64], count: usize, x: u8)
     }
 }
 
+// The place of a row whose cone holds the product of the row of a place with a power of a variable, the cone of a guess being looked at first.
+fn cone_sought<E: Element>(
+    limited: &Limited<E>,
+    kept: &mut Option<Kept<E>>,
+    place: usize,
+    row: &E,
+    variable: u8,
+    power: u16,
+    guess: usize,
+) -> Option<usize>
+    requires row { (place < length limited.now.rows.now) × (row_at (map E.Element.shown limited.now.rows.now) place ≡ E.Element.shown row.now) }
+    requires variable { (1 ≤ variable) × (variable ≤ 8) }
+    requires kept { IfSome kept.old (λ k. k.bars.rows.now ≡ limited.now.rows.now) }
+    ensures cone { MatchOption result ((s : ℕ) → InCone limited.now.n (map E.Element.shown limited.now.rows.now) (limits_of limited.now.limits.now) s (times (E.Element.shown row.now) variable power) → ⊥) (λ s. InCone limited.now.n (map E.Element.shown limited.now.rows.now) (limits_of limited.now.limits.now) s (times (E.Element.shown row.now) variable power)) }
+    ensures kept { IfSome kept.new (λ k. k.bars.rows.now ≡ limited.now.rows.now) }
+{
+    match kept {
+        None => limited.cone_of_product(row, variable, power, guess),
+        Some(kept) => {
+            let places = kept.divisors.of(place, variable);
+            limited.cone_among(places, row, variable, power, guess)
+        }
+    }
+}
+
 // The place of a row whose cone holds the product of a row with a power of a variable. By the limits but for those of variable x it lies in the cone
 // of the place told, unless x is that variable; it is looked for, beginning with a guess, only where x has taken it out of that.
 fn cone_still<E: Element>(
     limited: &Limited<E>,
+    kept: &mut Option<Kept<E>>,
+    place: usize,
     row: &E,
     variable: u8,
     power: u16,
@@ -55,31 +124,45 @@ fn cone_still<E: Element>(
     guess: usize,
     x: u8,
 ) -> Option<usize>
-    ensures { limited.now.n ≤ 8 → 1 ≤ variable → variable ≤ limited.now.n → (variable ≢ x → InCone limited.now.n (map E.Element.shown limited.now.rows.now) (without x (limits_of limited.now.limits.now)) told (times (E.Element.shown row.now) variable power)) → MatchOption result ((s : ℕ) → InCone limited.now.n (map E.Element.shown limited.now.rows.now) (limits_of limited.now.limits.now) s (times (E.Element.shown row.now) variable power) → ⊥) (λ s. InCone limited.now.n (map E.Element.shown limited.now.rows.now) (limits_of limited.now.limits.now) s (times (E.Element.shown row.now) variable power)) }
+    requires row { (place < length limited.now.rows.now) × (row_at (map E.Element.shown limited.now.rows.now) place ≡ E.Element.shown row.now) }
+    requires variable { (1 ≤ variable) × (variable ≤ limited.now.n) × (limited.now.n ≤ 8) }
+    requires kept { IfSome kept.old (λ k. k.bars.rows.now ≡ limited.now.rows.now) }
+    ensures cone { (variable ≢ x → InCone limited.now.n (map E.Element.shown limited.now.rows.now) (without x (limits_of limited.now.limits.now)) told (times (E.Element.shown row.now) variable power)) → MatchOption result ((s : ℕ) → InCone limited.now.n (map E.Element.shown limited.now.rows.now) (limits_of limited.now.limits.now) s (times (E.Element.shown row.now) variable power) → ⊥) (λ s. InCone limited.now.n (map E.Element.shown limited.now.rows.now) (limits_of limited.now.limits.now) s (times (E.Element.shown row.now) variable power)) }
+    ensures kept { IfSome kept.new (λ k. k.bars.rows.now ≡ limited.now.rows.now) }
 {
     if variable == x {
-        return limited.cone_of_product(row, variable, power, told);
+        return cone_sought(limited, kept, place, row, variable, power, told);
     }
     if limited.is_within(told, row, x) {
         return Some(told);
     }
-    limited.cone_of_product(row, variable, power, guess)
+    cone_sought(limited, kept, place, row, variable, power, guess)
 }
 
 // Whether each product lies in a cone, now that variable x has limits. The table of cones tells one of each by the limits but for those of x,
 // and afterwards by all limits, if there is one. Where a product has left a cone, it often lies in the one that held it before that;
 // the table of former cones may have any content.
-fn relocate<E: Element>(limited: &Limited<E>, cones: &mut Cones, former: &mut Cones, x: u8) -> bool
+fn relocate<E: Element>(
+    limited: &Limited<E>,
+    kept: &mut Option<Kept<E>>,
+    cones: &mut Cones,
+    former: &mut Cones,
+    x: u8,
+) -> bool
     requires places { length limited.now.rows.now ≤ 64 }
     requires variables { limited.now.n ≤ 8 }
-    ensures { Located limited.now.n (map E.Element.shown limited.now.rows.now) (without x (limits_of limited.now.limits.now)) cones.old → Relocated limited.now.n (map E.Element.shown limited.now.rows.now) x (limits_of limited.now.limits.now) result cones.new }
+    requires kept { IfSome kept.old (λ k. k.bars.rows.now ≡ limited.now.rows.now) }
+    ensures cones { Located limited.now.n (map E.Element.shown limited.now.rows.now) (without x (limits_of limited.now.limits.now)) cones.old → Relocated limited.now.n (map E.Element.shown limited.now.rows.now) x (limits_of limited.now.limits.now) result cones.new }
+    ensures kept { IfSome kept.new (λ k. k.bars.rows.now ≡ limited.now.rows.now) }
 {
     for (place, row) in limited.rows.iter().enumerate() {
         for variable in 1..=limited.n {
             if let Some(power) = limited.limit(place, variable) {
                 let told = cones[place][variable as usize - 1];
                 let guess = former[place][variable as usize - 1];
-                let Some(found) = cone_still(limited, row, variable, power, told, guess, x) else {
+                let Some(found) = cone_still(
+                    limited, kept, place, row, variable, power, told, guess, x,
+                ) else {
                     return false;
                 };
                 if found != told {
@@ -98,25 +181,24 @@ pub(crate) fn extend<E: Element, D: Division>(
     table: &mut [Limits; 64],
     cones: &mut Cones,
     former: &mut Cones,
+    kept: &mut Option<Kept<E>>,
     division: &D,
     rows: &[E],
     prefix: &Prefix,
 ) -> bool
     requires places { length rows.now ≤ 64 }
     requires some { 1 ≤ prefix.now.len }
-    ensures { RowsOfSheet prefix.now.n (map E.Element.shown rows.now) → Tabled (D.Division.meaning division.now) prefix.now.n (map E.Element.shown rows.now) (take (prefix.now.len - 1) prefix.now.entries) table.old → Located prefix.now.n (map E.Element.shown rows.now) (prefix_limits (D.Division.meaning division.now) prefix.now.n (map E.Element.shown rows.now) (take (prefix.now.len - 1) prefix.now.entries)) cones.old → Extended (D.Division.meaning division.now) prefix.now.n (map E.Element.shown rows.now) (take (prefix.now.len - 1) prefix.now.entries) (take prefix.now.len prefix.now.entries) result table.new cones.new }
+    requires kept { IfSome kept.old (λ k. k.bars.rows.now ≡ rows.now) }
+    ensures extended { RowsOfSheet prefix.now.n (map E.Element.shown rows.now) → Tabled (D.Division.meaning division.now) prefix.now.n (map E.Element.shown rows.now) (take (prefix.now.len - 1) prefix.now.entries) table.old → Located prefix.now.n (map E.Element.shown rows.now) (prefix_limits (D.Division.meaning division.now) prefix.now.n (map E.Element.shown rows.now) (take (prefix.now.len - 1) prefix.now.entries)) cones.old → Extended (D.Division.meaning division.now) prefix.now.n (map E.Element.shown rows.now) (take (prefix.now.len - 1) prefix.now.entries) (take prefix.now.len prefix.now.entries) result table.new cones.new }
+    ensures kept { IfSome kept.new (λ k. k.bars.rows.now ≡ rows.now) }
 {
     let order = prefix.completed();
-    let ranked = Ranked {
-        rows,
-        order: &order,
-    };
     let x = prefix.last();
-    fill_column(table, division, &ranked, x);
+    write_column(table, kept, division, rows, &order, prefix.count() - 1, x);
     let limited = Limited {
         rows,
         limits: &table[..],
         n: prefix.n,
     };
-    relocate(&limited, cones, former, x)
+    relocate(&limited, kept, cones, former, x)
 }

@@ -2,5 +2,7 @@
 #![tactic(auto)]
 
 pub mod columns;
+mod divisors;
+mod keeping;
 pub mod prefixes;
 pub mod searching;

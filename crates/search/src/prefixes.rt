@@ -38,6 +38,13 @@ impl Prefix {
         self.entries[..self.len].contains(&x)
     }
 
+    // How many entries there are.
+    pub(crate) fn count(&self) -> usize
+        ensures { result ≡ self.now.len }
+    {
+        self.len
+    }
+
     // Whether all variables are entries.
     pub(crate) fn is_full(&self) -> bool
         ensures { Decides result (self.now.len ≡ self.now.n) }

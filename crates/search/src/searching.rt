@@ -7,6 +7,7 @@ ghost use Rattle.search.specs.Liveness.{RowsOfSheet, answer, tested as tested_pr
 ghost use Rattle.search.specs.Theorems.{LiveIsToldByItsTest, PrefixLimitsHoldInEveryExtension, EveryExtensionOfADeadPrefixIsDead, EveryLivePrefixIsReached, NoOrderingExtendsADeadPrefixToCompleteness, FullPrefixIsLiveExactlyWhenComplete, TheAnswerIsTheFirstCompleteOrdering};
 
 use crate::columns::*;
+use crate::keeping::*;
 use crate::prefixes::*;
 use divisions::Division;
 use elements::Element;
@@ -18,6 +19,9 @@ pub struct Found {
     pub tested: u32,
     pub ordering: Option<[u8; 8]>,
 }
+
+// The prefix with which a search begins to be long.
+const LONG: u32 = 64;
 
 // Goes through the prefixes in the order of the listing, and goes on from live ones only. Where n is no count of variables,
 // or there are more than 64 rows, nothing is tested and nothing found.
@@ -44,6 +48,7 @@ pub fn search<E: Element, D: Division>(division: &D, rows: &[E], n: u8) -> Found
     let mut table = [[None; 8]; 64];
     let mut cones = [[0; 8]; 64];
     let mut former = [[0; 8]; 64];
+    let mut kept = None;
     let mut from: u8 = 0;
     let mut tested: u32 = 0;
     // a loop that breaks with the ordering: a rule of the project
@@ -59,7 +64,18 @@ pub fn search<E: Element, D: Division>(division: &D, rows: &[E], n: u8) -> Found
             Some(x) => {
                 prefix.push(x);
                 tested += 1;
-                if !extend(&mut table, &mut cones, &mut former, division, rows, &prefix) {
+                if tested == LONG {
+                    kept = Some(Kept::of(rows));
+                }
+                if !extend(
+                    &mut table,
+                    &mut cones,
+                    &mut former,
+                    &mut kept,
+                    division,
+                    rows,
+                    &prefix,
+                ) {
                     prefix.pop();
                     from = x;
                     clear_column(&mut table, rows.len(), x);

@@ -13,10 +13,7 @@ use lines::written::Listed;
 pub(crate) fn tell(page: &Page, rows: &[PlainTerm; 3], division: &Either) {
     println!(page; "  by {}:", name(division));
     for order in [UP, DOWN] {
-        let ranked = Ranked {
-            rows,
-            order: &order,
-        };
+        let ranked = Ranked::new(rows, &order);
         if tell_prefix(page, division, &ranked, &order[..1])
             && tell_prefix(page, division, &ranked, &order[..2])
         {

@@ -105,10 +105,7 @@ impl<'a, E: Element> Standing<'a, E> {
         ensures order { result.order.now ≡ self.now.parts.now.order.items }
         ensures count { length result.rows.now ≡ self.now.parts.now.header.rows }
     {
-        Ranked {
-            rows: self.rows(),
-            order: &self.parts.order,
-        }
+        Ranked::new(self.rows(), &self.parts.order)
     }
 
     // The place of the row that is the element.

@@ -25,7 +25,7 @@ impl<E: Element> Standing<'_, E> {
         let rows = self.rows();
         match shortfall_by(
             division,
-            &Ranked { rows, order },
+            &Ranked::new(rows, order),
             self.parts.header.variables,
         ) {
             None => Verdict {

@@ -25,10 +25,7 @@ fn tell_search<D: Division>(
 ) -> io::Result<()> {
     println!(rt; "  by {name}:")?;
     for order in [UP, DOWN] {
-        let ranked = Ranked {
-            rows,
-            order: &order,
-        };
+        let ranked = Ranked::new(rows, &order);
         if tell_prefix(rt, &ranked, division, &order[..1])?
             && tell_prefix(rt, &ranked, division, &order[..2])?
         {

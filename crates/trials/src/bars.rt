@@ -18,10 +18,7 @@ fn numbers<E: Element>(ranked: &Ranked<E>, place: usize) -> [usize; 3] {
 #[test]
 fn non_multiplicative_powers_of_six_terms(rt: HostRuntime) {
     let rows = six();
-    let ranked = Ranked {
-        rows: &rows,
-        order: &FALLING,
-    };
+    let ranked = Ranked::new(&rows, &FALLING);
     assert_eq!(rt; gaps(&ranked, 0), [0, 1, 2]);
     assert_eq!(rt; gaps(&ranked, 1), [0, 3, 2]);
     assert_eq!(rt; gaps(&ranked, 2), [0, 0, 2]);
@@ -33,10 +30,7 @@ fn non_multiplicative_powers_of_six_terms(rt: HostRuntime) {
 #[test]
 fn bars_of_six_terms(rt: HostRuntime) {
     let rows = six();
-    let ranked = Ranked {
-        rows: &rows,
-        order: &FALLING,
-    };
+    let ranked = Ranked::new(&rows, &FALLING);
     assert_eq!(rt; numbers(&ranked, 0), [1, 1, 1]);
     assert_eq!(rt; numbers(&ranked, 1), [2, 2, 1]);
     assert_eq!(rt; numbers(&ranked, 2), [3, 3, 1]);
@@ -48,17 +42,11 @@ fn bars_of_six_terms(rt: HostRuntime) {
 #[test]
 fn a_set_and_its_completion(rt: HostRuntime) {
     let rows = [term(3, 1, 1), term(5, 2, 1)];
-    let less = Ranked {
-        rows: &rows,
-        order: &FALLING,
-    };
+    let less = Ranked::new(&rows, &FALLING);
     assert_eq!(rt; gaps(&less, 0), [0, 1, 0]);
     assert_eq!(rt; gaps(&less, 1), [0, 0, 0]);
     let completed = [term(3, 1, 1), term(3, 2, 1), term(5, 2, 1)];
-    let more = Ranked {
-        rows: &completed,
-        order: &FALLING,
-    };
+    let more = Ranked::new(&completed, &FALLING);
     assert_eq!(rt; gaps(&more, 0), [0, 1, 0]);
     assert_eq!(rt; gaps(&more, 1), [2, 0, 0]);
     assert_eq!(rt; gaps(&more, 2), [0, 0, 0]);
@@ -73,10 +61,7 @@ fn bars_of_five_terms(rt: HostRuntime) {
         term(1, 2, 1),
         term(0, 3, 1),
     ];
-    let ranked = Ranked {
-        rows: &rows,
-        order: &FALLING,
-    };
+    let ranked = Ranked::new(&rows, &FALLING);
     assert_eq!(rt; numbers(&ranked, 0), [1, 1, 1]);
     assert_eq!(rt; numbers(&ranked, 1), [2, 1, 1]);
     assert_eq!(rt; numbers(&ranked, 2), [3, 2, 2]);
@@ -92,25 +77,16 @@ fn multiplicative(ranked: &Ranked<PlainTerm>, place: usize) -> [bool; 3] {
 #[test]
 fn multiplicative_variables(rt: HostRuntime) {
     let rows = [term(3, 0, 0), term(0, 3, 0), term(4, 1, 1), term(0, 0, 2)];
-    let ranked = Ranked {
-        rows: &rows,
-        order: &FALLING,
-    };
+    let ranked = Ranked::new(&rows, &FALLING);
     assert_eq!(rt; multiplicative(&ranked, 0), [true, false, false]);
     assert_eq!(rt; multiplicative(&ranked, 1), [true, true, false]);
     assert_eq!(rt; multiplicative(&ranked, 2), [true, true, false]);
     assert_eq!(rt; multiplicative(&ranked, 3), [true, true, true]);
     let pair = [term(1, 0, 0), term(0, 1, 0)];
-    let second_greater = Ranked {
-        rows: &pair,
-        order: &[2, 1, 0, 0, 0, 0, 0, 0],
-    };
+    let second_greater = Ranked::new(&pair, &[2, 1, 0, 0, 0, 0, 0, 0]);
     assert!(rt; second_greater.has_star(0, 1) && !second_greater.has_star(0, 2));
     assert!(rt; second_greater.has_star(1, 1) && second_greater.has_star(1, 2));
-    let first_greater = Ranked {
-        rows: &pair,
-        order: &[1, 2, 0, 0, 0, 0, 0, 0],
-    };
+    let first_greater = Ranked::new(&pair, &[1, 2, 0, 0, 0, 0, 0, 0]);
     assert!(rt; first_greater.has_star(0, 1) && first_greater.has_star(0, 2));
     assert!(rt; !first_greater.has_star(1, 1) && first_greater.has_star(1, 2));
 }
@@ -118,10 +94,7 @@ fn multiplicative_variables(rt: HostRuntime) {
 #[test]
 fn limits_by_number(rt: HostRuntime) -> Result<(), Fail> {
     let rows = six();
-    let ranked = Ranked {
-        rows: &rows,
-        order: &FALLING,
-    };
+    let ranked = Ranked::new(&rows, &FALLING);
     assert_eq!(rt; Janet.limit(&ranked, 1, 2), Some(1));
     assert_eq!(rt; JanetLike.limit(&ranked, 1, 2), Some(3));
     assert_eq!(rt; Janet.limit(&ranked, 2, 2), None);
@@ -136,10 +109,7 @@ fn limits_by_number(rt: HostRuntime) -> Result<(), Fail> {
 #[test]
 fn each_family_has_its_own_bar_code(rt: HostRuntime) {
     let rows = [derivative(1, 2, 0), derivative(2, 0, 2)];
-    let ranked = Ranked {
-        rows: &rows,
-        order: &[1, 2, 0, 0, 0, 0, 0, 0],
-    };
+    let ranked = Ranked::new(&rows, &[1, 2, 0, 0, 0, 0, 0, 0]);
     assert_eq!(rt; gaps(&ranked, 0), [0, 0, 0]);
     assert_eq!(rt; gaps(&ranked, 1), [0, 0, 0]);
     assert_eq!(rt; numbers(&ranked, 1), [1, 1, 1]);

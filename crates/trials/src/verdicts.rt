@@ -90,10 +90,7 @@ fn no_verdict_on_an_empty_sheet(rt: HostRuntime) -> Result<(), Fail> {
 #[test]
 fn cones_of_three_terms(rt: HostRuntime) {
     let rows = three();
-    let ranked = Ranked {
-        rows: &rows,
-        order: &[2, 1, 0, 0, 0, 0, 0, 0],
-    };
+    let ranked = Ranked::new(&rows, &[2, 1, 0, 0, 0, 0, 0, 0]);
     let limits = limits_by(&Janet, &ranked, 2);
     let limited = Limited {
         rows: &rows,

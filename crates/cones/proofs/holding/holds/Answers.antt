@@ -1,15 +1,9 @@
-use Rattle.std.proofs.Common.{rules, tests, arith}
-use Rattle.std.proofs.lemmas.Iterator.{YieldsList-from_slice, YieldsList-from_zip, YieldsList-from_take}
-use Rattle.std.proofs.lemmas.Iterator.Search.{all_from_yields_List}
-use Rattle.elements.specs.Element.{Shown}
-use Rattle.cones.proofs.Reading.{fits, held}
+use Rattle.std.proofs.Common.{arith}
+use Rattle.std.proofs.lemmas.Bool.Decides.{Decides-like}
+use Rattle.cones.proofs.Reading.{held, below_held}
 use Rattle.cones.proofs.holding.holds.Goals as goal
 
 pub returns-then-is_multiple_of : goal.returns-then-is_multiple_of
 returns-then-is_multiple_of g c =
-    let w : Shown = record { family = c.args.shape.now.family; exponents = c.args.shape.now.exponents } in
-    held c.args.n c.args.limits.now (g.E.Element.shown c.args.row.now) w c.exponents.result c.exponents.ensures (omega arith) (omega arith) (omega arith)
-    c.all.result (c.is_multiple_of.ensures.0 c.if-is_multiple_of.true)
-    (all_from_yields_List fits c.all.new.self _ c.all.result c.all.ensures.ran
-    (YieldsList-from_take c.args.n (YieldsList-from_zip (YieldsList-from_zip (YieldsList-from_slice c.exponents.result cc) (YieldsList-from_slice w.exponents cc)) (YieldsList-from_slice c.args.limits.now cc)) cc)
-    (λ x t q k. search (rules, tests)))
+    Decides-like c.is_below.result (held c.args.n c.args.limits.now (g.E.Element.shown c.args.row.now) _ (omega arith) (c.is_multiple_of.ensures.0 c.if-is_multiple_of.true))
+    (below_held c.args.n c.args.limits.now (g.E.Element.shown c.args.row.now) _ (omega arith)) c.is_below.ensures

@@ -4,9 +4,9 @@ use Rattle.cones.specs.Tables.{limits_of}
 use Rattle.search.proofs.Locating.{cone_stays}
 use Rattle.search.proofs.columns.cone_still.Goals as goal
 
-pub returns-then-is_within : goal.returns-then-is_within
-returns-then-is_within g c = λ few low high by_others.
+pub returns-then-is_within-clause-cone : goal.returns-then-is_within-clause-cone
+returns-then-is_within-clause-cone g c = λ by_others.
     let rows = c.args.limited.now.rows.now in
     let cone = by_others c.if-variable-x.false in
-    cone_stays c.args.limited.now.n (map g.E.Element.shown rows) c.args.x (limits_of c.args.limited.now.limits.now) few c.args.told c.args.variable c.args.power (g.E.Element.shown c.args.row.now)
+    cone_stays c.args.limited.now.n (map g.E.Element.shown rows) c.args.x (limits_of c.args.limited.now.limits.now) (omega (arith, c.requires.variable.2)) c.args.told c.args.variable c.args.power (g.E.Element.shown c.args.row.now)
     c.if-variable-x.false cone ((c.is_within.ensures.row (omega (arith, cone.place, length-map rows g.E.Element.shown))).0 c.if-is_within.true)

@@ -4,17 +4,17 @@ use Rattle.search.proofs.Held.{held, held_prefix, held_last, last_range}
 use Rattle.search.proofs.Extending.{extended}
 use Rattle.search.proofs.columns.extend.Goals as goal
 
-pub fill_column-requires : goal.fill_column-requires
-fill_column-requires g c =
+pub write_column-requires-clause-column : goal.write_column-requires-clause-column
+write_column-requires-clause-column g c =
     let p = c.args.prefix.now in
     let (low, high) = last_range (held p) (p.len - 1) (omega (arith, c.requires.some)) in
-    record { places = c.requires.places; column = (rw c.last-x.ensures at low, omega (arith, c.last-x.ensures, high, p.few)) }
+    (rw c.last-x.ensures at low, omega (arith, c.last-x.ensures, high, p.few))
 
-pub returns : goal.returns
-returns g c = λ s t l.
+pub returns-clause-extended : goal.returns-clause-extended
+returns-clause-extended g c = λ s t l.
     let shown = g.E.Element.shown in
     let p = c.args.prefix.now in
     extended (g.D.Division.meaning c.args.division.now) (g.met.D.Division.lawful c.args.division.now) p.n (map shown c.args.rows.now) s
-    _ _ c.last-x.result c.completed-order.result c.args.table.now c.fill_column.new.table c.args.cones.now c.relocate.new.cones _ c.relocate.result
+    _ _ c.last-x.result c.completed-order.result c.args.table.now c.write_column.new.table c.args.cones.now c.relocate.new.cones _ c.relocate.result
     (rw c.last-x.ensures at (held_last (held p) (p.len - 1) (omega (arith, c.requires.some)))) (held_prefix (held p) c.requires.some)
-    c.completed-order.ensures (length-map c.args.rows.now shown) t l c.fill_column.ensures c.relocate.ensures
+    c.completed-order.ensures (length-map c.args.rows.now shown) t l c.write_column.ensures.column c.relocate.ensures.cones

@@ -1,4 +1,4 @@
-use Rattle.std.proofs.Common.{map}
+use Rattle.std.proofs.Common.{◌≡◌, map, IfSome}
 use Rattle.cones.specs.Tables.{limits_of}
 use Rattle.search.specs.Columns.{Located, without}
 use Rattle.search.proofs.Locating.{Going}
@@ -9,10 +9,10 @@ abbrev pub invariant-loop-variable : goal.invariant-loop-variable
 invariant-loop-variable g l =
     let rows = map g.E.Element.shown l.limited.rows.now in
     let lim = limits_of l.limited.limits.now in
-    Located l.limited.n rows (without l.x lim) l.fn.cones → Going l.limited.n rows l.x lim l.place l.variable l.cones
+    (Located l.limited.n rows (without l.x lim) l.fn.cones → Going l.limited.n rows l.x lim l.place l.variable l.cones) × IfSome l.kept (λ k. k.bars.rows.now ≡ l.limited.rows.now)
 
 abbrev pub invariant-loop-place : goal.invariant-loop-place
 invariant-loop-place g l =
     let rows = map g.E.Element.shown l.limited.rows.now in
     let lim = limits_of l.limited.limits.now in
-    Located l.limited.n rows (without l.x lim) l.fn.cones → Going l.limited.n rows l.x lim l.place 1 l.cones
+    (Located l.limited.n rows (without l.x lim) l.fn.cones → Going l.limited.n rows l.x lim l.place 1 l.cones) × IfSome l.kept (λ k. k.bars.rows.now ≡ l.limited.rows.now)

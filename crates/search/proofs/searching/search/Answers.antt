@@ -16,52 +16,60 @@ use Rattle.search.proofs.Stepping.{Answers, tests_fit, walking_start, next_fresh
 use Rattle.search.proofs.searching.search.Goals as goal
 
 pub walk-init : goal.walk-init
-walk-init g c =
-    walking_start (g.met.D.Division.lawful c.args.division.now) (c.is_variable_count.ensures.0 c.if-not-is_variable_count.false).some c.new-prefix.result
-    c.new-prefix.ensures.len c.new-prefix.ensures.same
+walk-init g c = (
+  walking_start (g.met.D.Division.lawful c.args.division.now) (c.is_variable_count.ensures.0 c.if-not-is_variable_count.false).some c.new-prefix.result
+      c.new-prefix.ensures.len c.new-prefix.ensures.same,
+  tt,
+)
 
 pub clear_column-requires : goal.clear_column-requires
 clear_column-requires g c =
-    record { places = omega arith; column = pop_range (g.met.D.Division.lawful c.args.division.now) c.walk.invariant c.in-None.ensures c.pop.new.self c.in-Some-pop.ensures }
+    record { places = omega arith; column = pop_range (g.met.D.Division.lawful c.args.division.now) c.walk.invariant.0 c.in-None.ensures c.pop.new.self c.in-Some-pop.ensures }
 
 pub walk-smaller-in-None : goal.walk-smaller-in-None
 walk-smaller-in-None g c =
-    work_back (g.met.D.Division.lawful c.args.division.now) c.walk.invariant c.in-None.ensures c.pop.new.self c.in-Some-pop.ensures
+    work_back (g.met.D.Division.lawful c.args.division.now) c.walk.invariant.0 c.in-None.ensures c.pop.new.self c.in-Some-pop.ensures
 
 pub walk-preserved-in-None : goal.walk-preserved-in-None
-walk-preserved-in-None g c =
-    walking_back (g.met.D.Division.lawful c.args.division.now) c.walk.invariant c.in-None.ensures c.pop.new.self c.in-Some-pop.ensures
-    c.clear_column.new.table _ (length-map c.args.rows.now g.E.Element.shown) c.clear_column.ensures
+walk-preserved-in-None g c = (
+  walking_back (g.met.D.Division.lawful c.args.division.now) c.walk.invariant.0 c.in-None.ensures c.pop.new.self c.in-Some-pop.ensures
+      c.clear_column.new.table _ (length-map c.args.rows.now g.E.Element.shown) c.clear_column.ensures,
+  c.walk.invariant.1,
+)
 
 pub push-requires : goal.push-requires
 push-requires g c =
-    let (range, unused) = next_fresh (g.met.D.Division.lawful c.args.division.now) c.walk.invariant c.in-Some.x c.in-Some.ensures in
+    let (range, unused) = next_fresh (g.met.D.Division.lawful c.args.division.now) c.walk.invariant.0 c.in-Some.x c.in-Some.ensures in
     record { variable = range; unused = unused }
 
 pub overflow_add-tested : goal.overflow_add-tested
-overflow_add-tested g c = omega (arith, tests_fit (g.met.D.Division.lawful c.args.division.now) c.walk.invariant)
+overflow_add-tested g c = omega (arith, tests_fit (g.met.D.Division.lawful c.args.division.now) c.walk.invariant.0)
 
 pub clear_column-requires-then-not-extend : goal.clear_column-requires-then-not-extend
-clear_column-requires-then-not-extend g c = record { places = omega arith; column = next_range (g.met.D.Division.lawful c.args.division.now) c.walk.invariant c.in-Some.x c.in-Some.ensures }
+clear_column-requires-then-not-extend g c = record { places = omega arith; column = next_range (g.met.D.Division.lawful c.args.division.now) c.walk.invariant.0 c.in-Some.x c.in-Some.ensures }
 
 pub walk-smaller-then-not-extend : goal.walk-smaller-then-not-extend
 walk-smaller-then-not-extend g c =
-    work_dead (g.met.D.Division.lawful c.args.division.now) c.walk.invariant c.in-Some.x c.in-Some.ensures c.push.new.self c.push.ensures _ _ _ c.extend.ensures _ c.pop-then-not-extend.new.self c.pop-then-not-extend.ensures
+    work_dead (g.met.D.Division.lawful c.args.division.now) c.walk.invariant.0 c.in-Some.x c.in-Some.ensures c.push.new.self c.push.ensures _ _ _ c.extend.ensures.extended _ c.pop-then-not-extend.new.self c.pop-then-not-extend.ensures
 
 pub walk-preserved-then-not-extend : goal.walk-preserved-then-not-extend
-walk-preserved-then-not-extend g c =
-    walking_dead (g.met.D.Division.lawful c.args.division.now) c.walk.invariant c.in-Some.x c.in-Some.ensures c.push.new.self c.push.ensures _ _ _ c.extend.ensures
-    _ c.pop-then-not-extend.new.self c.pop-then-not-extend.ensures c.if-not-extend.true _ _ (length-map c.args.rows.now g.E.Element.shown) c.clear_column-then-not-extend.ensures
+walk-preserved-then-not-extend g c = (
+  walking_dead (g.met.D.Division.lawful c.args.division.now) c.walk.invariant.0 c.in-Some.x c.in-Some.ensures c.push.new.self c.push.ensures _ _ _ c.extend.ensures.extended
+      _ c.pop-then-not-extend.new.self c.pop-then-not-extend.ensures c.if-not-extend.true _ _ (length-map c.args.rows.now g.E.Element.shown) c.clear_column-then-not-extend.ensures,
+  c.extend.ensures.kept,
+)
 
 pub walk-smaller : goal.walk-smaller
 walk-smaller g c =
-    work_on (g.met.D.Division.lawful c.args.division.now) c.walk.invariant c.in-Some.x c.in-Some.ensures c.push.new.self c.push.ensures _ _ _ c.extend.ensures
+    work_on (g.met.D.Division.lawful c.args.division.now) c.walk.invariant.0 c.in-Some.x c.in-Some.ensures c.push.new.self c.push.ensures _ _ _ c.extend.ensures.extended
     c.if-not-extend.false (not_from_Decides _ c.is_full.ensures c.if-is_full.false)
 
 pub walk-preserved : goal.walk-preserved
-walk-preserved g c =
-    walking_on (g.met.D.Division.lawful c.args.division.now) c.walk.invariant c.in-Some.x c.in-Some.ensures c.push.new.self c.push.ensures _ _ _ c.extend.ensures
-    c.if-not-extend.false (not_from_Decides _ c.is_full.ensures c.if-is_full.false)
+walk-preserved g c = (
+  walking_on (g.met.D.Division.lawful c.args.division.now) c.walk.invariant.0 c.in-Some.x c.in-Some.ensures c.push.new.self c.push.ensures _ _ _ c.extend.ensures.extended
+      c.if-not-extend.false (not_from_Decides _ c.is_full.ensures c.if-is_full.false),
+  c.extend.ensures.kept,
+)
 
 -- what is found, and the theorems
 with_theorems : {m : Meaning} {n : ℕ} {rows : List Shown} {o : Option (List ℕ)} {c k : ℕ} → (RowsOfSheet n rows → Answers m n rows o c) →
@@ -98,11 +106,11 @@ returns-then-not-is_variable_count g c =
 
 pub returns-in_default : goal.returns-in_default
 returns-in_default g c =
-    with_theorems (walking_end (g.met.D.Division.lawful c.args.division.now) c.walk.invariant c.in-None.ensures c.in_default.ensures.last) (grind (arith, common_steps))
+    with_theorems (walking_end (g.met.D.Division.lawful c.args.division.now) c.walk.invariant.0 c.in-None.ensures c.in_default.ensures.last) (grind (arith, common_steps))
 
 pub returns-then-is_full : goal.returns-then-is_full
 returns-then-is_full g c =
     with_theorems
-    (walking_found (g.met.D.Division.lawful c.args.division.now) c.walk.invariant c.in-Some.x c.in-Some.ensures c.push.new.self c.push.ensures _ _ _ c.extend.ensures
+    (walking_found (g.met.D.Division.lawful c.args.division.now) c.walk.invariant.0 c.in-Some.x c.in-Some.ensures c.push.new.self c.push.ensures _ _ _ c.extend.ensures.extended
     c.if-not-extend.false (c.is_full.ensures.0 c.if-is_full.true) _ c.completed.ensures)
     (grind (arith, common_steps))

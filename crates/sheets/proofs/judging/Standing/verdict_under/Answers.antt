@@ -11,7 +11,7 @@ returns-in-None g c =
     let some : 0 < length rows = omega (arith, c.rows-rows.ensures.count, c.requires.some) in
     told_complete (g.D.Division.meaning c.args.division.now) c.args.self.now.parts.now.header.variables c.args.order.now (map shown rows) _ c.rows-rows.ensures.rows
     (on_sheet g.E.Element.admitted shown c.args.self.now.parts.now c.args.self.now.stands c.args.order.now c.requires.ordered)
-    (shown c.index-rows-0.result) (row_read shown rows 0 c.index-rows-0.result some c.index-rows-0.is) c.in-None.ensures.judged
+    (shown c.index-rows-0.result) (row_read shown rows 0 c.index-rows-0.result some c.index-rows-0.is) (rw (c.new.ensures.rows, c.new.ensures.order) at c.in-None.ensures.judged)
 
 pub returns-in-Some : goal.returns-in-Some
 returns-in-Some g c =
@@ -22,6 +22,7 @@ returns-in-Some g c =
     let rows = c.rows-rows.result.now in
     let on = on_sheet g.E.Element.admitted shown c.args.self.now.parts.now c.args.self.now.stands order c.requires.ordered in
     let h = c.in-Some.field-0 in
-    let first = (c.in-Some.ensures.judged (seen_on m n order (map shown rows) _ c.rows-rows.ensures.rows on)).0 in
+    let judged = rw (c.new.ensures.rows, c.new.ensures.order) at c.in-Some.ensures.judged in
+    let first = (judged (seen_on m n order (map shown rows) _ c.rows-rows.ensures.rows on)).0 in
     told_short m n order (map shown rows) _ c.rows-rows.ensures.rows on h.place h.variable h.power (shown c.index-rows-place.result)
-    (row_read shown rows h.place c.index-rows-place.result (omega (arith, first.shortfall.place, length-map rows shown)) c.index-rows-place.is) c.in-Some.ensures.judged
+    (row_read shown rows h.place c.index-rows-place.result (omega (arith, first.shortfall.place, length-map rows shown)) c.index-rows-place.is) judged
