@@ -15,7 +15,7 @@ use Rattle.search.proofs.Orders.{ordering_of, ordering_prefix, ordering_long, or
 use Rattle.search.proofs.Deadness.{live_is_told_by_its_test, full_prefix_is_live_exactly_when_complete}
 
 -- of two prefixes one at most stands before the other
-before_once : (p q : List ℕ) → Before p q → Before q p → ⊥
+pub before_once : (p q : List ℕ) → Before p q → Before q p → ⊥
 before_once [] [] h k = h
 before_once [] (y ∷ ys) h k = k
 before_once (x ∷ xs) [] h k = h
@@ -24,12 +24,12 @@ before_once (x ∷ xs) (y ∷ ys) h k = elim h [
   | inr l ↦ elim k [ inl m ↦ omega (arith, l.0) | inr m ↦ before_once xs ys l.1 m.1 ]
 ]
 
-all_among : (P : List ℕ → Type 0) (ps : List (List ℕ)) (p : List ℕ) → All P ps → Among p ps → P p
+pub all_among : (P : List ℕ → Type 0) (ps : List (List ℕ)) (p : List ℕ) → All P ps → Among p ps → P p
 all_among P [] p h a = absurd a
 all_among P (q ∷ qs) p h a = elim a [ inl e ↦ subst P (sym e) h.0 | inr b ↦ all_among P qs p h.1 b ]
 
 -- what is found passes, is listed, and nothing that stands before it passes
-first_some : (f : List ℕ → Bool) (ps : List (List ℕ)) (p : List ℕ) → Sorted Before ps → first f ps ≡ Some p →
+pub first_some : (f : List ℕ → Bool) (ps : List (List ℕ)) (p : List ℕ) → Sorted Before ps → first f ps ≡ Some p →
     (Among p ps) × (f p ≡ true) × ((q : List ℕ) → Among q ps → Before q p → f q ≡ false)
 first_some f [] p s e = absurd (let z : ◌≡◌ {A = ℕ} 0 1 = cc in omega arith)
 first_some f (r ∷ rs) p s e = elim (cases_Bool (f r)) [

@@ -7,6 +7,7 @@ pub mod Filling
 pub mod Testing
 pub mod Deadness
 pub mod Answered
+pub mod Tested
 pub mod Writing
 pub mod Locating
 pub mod Extending

@@ -45,7 +45,7 @@ after_all n m (suc k) h = (
   All-weaker (λ x. (suc m < x) × (x ≤ n)) (λ x. (m < x) × (x ≤ n)) (λ x g. (omega arith, g.1)) (after (suc m) k) (after_all n (suc m) k (omega arith)),
 )
 
-pub kept_all : (P : ℕ → Type 0) (f : ℕ → Bool) (xs : List ℕ) → All P xs → All (λ x. P x × (f x ≡ true)) (filter f xs)
+pub kept_all : {X : Type 0} (P : X → Type 0) (f : X → Bool) (xs : List X) → All P xs → All (λ x. P x × (f x ≡ true)) (filter f xs)
 kept_all P f [] h = tt
 kept_all P f (x ∷ xs) h =
     let i = kept_all P f xs h.1 in
@@ -89,7 +89,7 @@ among_after m zero x h l = absurd (omega arith)
 among_after m (suc k) x h l =
     ⊎_elim (λ e. inl e) (λ ne. inr (among_after (suc m) k x (omega arith) (omega arith))) (cases_eq x (suc m))
 
-pub among_kept : (f : ℕ → Bool) (xs : List ℕ) (x : ℕ) → Among x xs → f x ≡ true → Among x (filter f xs)
+pub among_kept : {X : Type 0} (f : X → Bool) (xs : List X) (x : X) → Among x xs → f x ≡ true → Among x (filter f xs)
 among_kept f [] x h k = h
 among_kept f (z ∷ zs) x h k =
     ⊎_elim
@@ -178,12 +178,12 @@ each_sorted n d q (x ∷ xs) s h =
     (block n d q y) (block_from n d q y)))
     (block n d q x) (block_from n d q x))
 
-pub kept_sorted : (f : ℕ → Bool) (xs : List ℕ) → Sorted ◌<◌ xs → Sorted ◌<◌ (filter f xs)
-kept_sorted f [] s = tt
-kept_sorted f (x ∷ xs) s =
-    let i = kept_sorted f xs s.1 in
-    let k = All-weaker (λ y. (x < y) × (f y ≡ true)) (λ y. x < y) (λ y g. g.0) (filter f xs) (kept_all (λ y. x < y) f xs s.0) in
-    cond_both (f x) (x ∷ filter f xs) (filter f xs) (λ t. Sorted ◌<◌ t) (λ _. (k, i)) (λ _. i)
+pub kept_sorted : {X : Type 0} (R : X → X → Type 0) (f : X → Bool) (xs : List X) → Sorted R xs → Sorted R (filter f xs)
+kept_sorted R f [] s = tt
+kept_sorted R f (x ∷ xs) s =
+    let i = kept_sorted R f xs s.1 in
+    let k = All-weaker (λ y. R x y × (f y ≡ true)) (R x) (λ y g. g.0) (filter f xs) (kept_all (R x) f xs s.0) in
+    cond_both (f x) (x ∷ filter f xs) (filter f xs) (λ t. Sorted R t) (λ _. (k, i)) (λ _. i)
 
 pub after_above : (m k : ℕ) → All (λ x. m < x) (after m k)
 after_above m zero = tt
@@ -196,7 +196,7 @@ after_sorted m (suc k) = (after_above (suc m) k, after_sorted (suc m) k)
 ext_sorted : (n d : ℕ) (q : List ℕ) → Sorted Before (extensions n d q)
 ext_sorted n zero q = tt
 ext_sorted n (suc d) q =
-    each_sorted n d q (unused_above n q 0) (kept_sorted (λ x. not (has x q)) (after 0 (n - 0)) (after_sorted 0 (n - 0))) (λ x. ext_sorted n d (q ++ (x ∷ [])))
+    each_sorted n d q (unused_above n q 0) (kept_sorted ◌<◌ (λ x. not (has x q)) (after 0 (n - 0)) (after_sorted 0 (n - 0))) (λ x. ext_sorted n d (q ++ (x ∷ [])))
 
 all_listed : (n : ℕ) (p : List ℕ) → Prefix n p → Among p (prefixes n)
 unfolding prefixes

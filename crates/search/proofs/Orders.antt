@@ -80,7 +80,7 @@ entries_completed n p h =
     record {
       range = All-append (λ x. (1 ≤ x) × (x ≤ n)) p u h.range
           (All-weaker (λ x. ((0 < x) × (x ≤ n)) × (not (has x p) ≡ true)) (λ x. (1 ≤ x) × (x ≤ n)) (λ x f. f.0) u facts);
-      apart = apart_append p u h.apart (sorted_apart u (kept_sorted (λ x. not (has x p)) (after 0 (n - 0)) (after_sorted 0 (n - 0))))
+      apart = apart_append p u h.apart (sorted_apart u (kept_sorted ◌<◌ (λ x. not (has x p)) (after 0 (n - 0)) (after_sorted 0 (n - 0))))
           (All-weaker (λ x. ((0 < x) × (x ≤ n)) × (not (has x p) ≡ true)) (λ x. has x p ≡ false) (λ x f. not-true (has x p) f.1) u facts);
     }
 

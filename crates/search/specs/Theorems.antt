@@ -1,12 +1,12 @@
 -- What holds of prefixes and of the answer, for every lawful division. Assumes nothing.
-use Rattle.std.specs.Prelude.{◌≡◌, ℕ, ◌<◌, true, List, ◌++◌, length, take, Some, None, Decides}
+use Rattle.std.specs.Prelude.{◌≡◌, ℕ, ◌<◌, ◌≤◌, true, List, ◌++◌, length, take, Some, None, Decides}
 use Rattle.elements.specs.Element.{Shown}
 use Rattle.orderings.specs.Order.{IsOrdering}
 use Rattle.divisions.specs.Laws.{Meaning, Lawful}
 use Rattle.cones.specs.Cones.{Complete}
-use Rattle.search.specs.Prefixes.{has, Prefix, Before, padded, completed}
+use Rattle.search.specs.Prefixes.{has, Prefix, Before, Sorted, Among, padded, completed}
 use Rattle.search.specs.Walks.{reached}
-use Rattle.search.specs.Liveness.{RowsOfSheet, Dead, Live, live, answer}
+use Rattle.search.specs.Liveness.{RowsOfSheet, Dead, Live, live, answer, tested}
 
 -- the test tells whether a prefix is live
 abbrev pub LiveIsToldByItsTest : Type 0
@@ -40,6 +40,19 @@ abbrev pub FullPrefixIsLiveExactlyWhenComplete : Type 0
 FullPrefixIsLiveExactlyWhenComplete =
     (m : Meaning) → Lawful m → (n : ℕ) (rows : List Shown) → RowsOfSheet n rows → (p : List ℕ) → Prefix n p → length p ≡ n →
     (Live m n rows p → Complete n rows (m rows (padded p))) × (Complete n rows (m rows (padded p)) → Live m n rows p)
+
+-- p is a prefix of which every shorter one is live, and does not come after the answer, if there is one
+pub record IsTested (m : Meaning) (n : ℕ) (rows : List Shown) (p : List ℕ) : Type 0 where
+  pub prefix : Prefix n p
+  pub shorter : (k : ℕ) → 1 ≤ k → k < length p → Live m n rows (take k p)
+  pub not_after : (a : List ℕ) → answer m n rows ≡ Some a → Before a p → ⊥
+
+-- the tested prefixes are just these, each listed once
+abbrev pub TheTestedPrefixesAreThoseOfTheRule : Type 0
+TheTestedPrefixesAreThoseOfTheRule =
+    (m : Meaning) (n : ℕ) (rows : List Shown) → RowsOfSheet n rows →
+    ((p : List ℕ) → (Among p (tested m n rows) → IsTested m n rows p) × (IsTested m n rows p → Among p (tested m n rows))) ×
+    Sorted Before (tested m n rows)
 
 -- p has all n variables, its ordering makes the rows complete, and none that is listed before it does
 pub record FirstComplete (m : Meaning) (n : ℕ) (rows : List Shown) (p : List ℕ) : Type 0 where

@@ -4,7 +4,7 @@ ghost use Rattle.std.specs.Option.{option_map};
 ghost use Rattle.orderings.specs.Order.{VariableCount};
 ghost use Rattle.search.specs.Prefixes.{padded, ListingHasEveryPrefixInOrder};
 ghost use Rattle.search.specs.Liveness.{RowsOfSheet, answer, tested as tested_prefixes};
-ghost use Rattle.search.specs.Theorems.{LiveIsToldByItsTest, PrefixLimitsHoldInEveryExtension, EveryExtensionOfADeadPrefixIsDead, EveryLivePrefixIsReached, NoOrderingExtendsADeadPrefixToCompleteness, FullPrefixIsLiveExactlyWhenComplete, TheAnswerIsTheFirstCompleteOrdering};
+ghost use Rattle.search.specs.Theorems.{LiveIsToldByItsTest, PrefixLimitsHoldInEveryExtension, EveryExtensionOfADeadPrefixIsDead, EveryLivePrefixIsReached, NoOrderingExtendsADeadPrefixToCompleteness, FullPrefixIsLiveExactlyWhenComplete, TheTestedPrefixesAreThoseOfTheRule, TheAnswerIsTheFirstCompleteOrdering};
 
 use crate::columns::*;
 use crate::keeping::*;
@@ -35,6 +35,7 @@ pub fn search<E: Element, D: Division>(division: &D, rows: &[E], n: u8) -> Found
     ensures dead { EveryExtensionOfADeadPrefixIsDead }
     ensures reached { EveryLivePrefixIsReached }
     ensures incomplete { NoOrderingExtendsADeadPrefixToCompleteness }
+    ensures rule { TheTestedPrefixesAreThoseOfTheRule }
     ensures full { FullPrefixIsLiveExactlyWhenComplete }
     ensures first { TheAnswerIsTheFirstCompleteOrdering }
 {

@@ -8,9 +8,10 @@ use Rattle.orderings.specs.Order.{VariableCount}
 use Rattle.divisions.specs.Laws.{Meaning}
 use Rattle.search.specs.Prefixes.{padded, ListingHasEveryPrefixInOrder}
 use Rattle.search.specs.Liveness.{RowsOfSheet, answer, tested}
-use Rattle.search.specs.Theorems.{LiveIsToldByItsTest, PrefixLimitsHoldInEveryExtension, EveryExtensionOfADeadPrefixIsDead, EveryLivePrefixIsReached, NoOrderingExtendsADeadPrefixToCompleteness, FullPrefixIsLiveExactlyWhenComplete, TheAnswerIsTheFirstCompleteOrdering}
+use Rattle.search.specs.Theorems.{LiveIsToldByItsTest, PrefixLimitsHoldInEveryExtension, EveryExtensionOfADeadPrefixIsDead, EveryLivePrefixIsReached, NoOrderingExtendsADeadPrefixToCompleteness, FullPrefixIsLiveExactlyWhenComplete, TheTestedPrefixesAreThoseOfTheRule, TheAnswerIsTheFirstCompleteOrdering}
 use Rattle.search.proofs.Listed.{listed}
 use Rattle.search.proofs.Deadness.{live_is_told_by_its_test, prefix_limits_hold_in_every_extension, every_extension_of_a_dead_prefix_is_dead, every_live_prefix_is_reached, no_ordering_extends_a_dead_prefix_to_completeness, full_prefix_is_live_exactly_when_complete}
+use Rattle.search.proofs.Tested.{the_tested_prefixes_are_those_of_the_rule}
 use Rattle.search.proofs.Answered.{the_answer_is_the_first_complete_ordering}
 use Rattle.search.proofs.Stepping.{Answers, tests_fit, walking_start, next_fresh, pop_range, walking_back, work_back, next_range, walking_dead, work_dead, walking_on, work_on, walking_end, walking_found}
 use Rattle.search.proofs.searching.search.Goals as goal
@@ -83,6 +84,7 @@ with_theorems : {m : Meaning} {n : â„•} {rows : List Shown} {o : Option (List â„
       dead : EveryExtensionOfADeadPrefixIsDead;
       reached : EveryLivePrefixIsReached;
       incomplete : NoOrderingExtendsADeadPrefixToCompleteness;
+      rule : TheTestedPrefixesAreThoseOfTheRule;
       full : FullPrefixIsLiveExactlyWhenComplete;
       first : TheAnswerIsTheFirstCompleteOrdering;
     }
@@ -96,6 +98,7 @@ with_theorems answers refused = record {
   dead = every_extension_of_a_dead_prefix_is_dead;
   reached = every_live_prefix_is_reached;
   incomplete = no_ordering_extends_a_dead_prefix_to_completeness;
+  rule = the_tested_prefixes_are_those_of_the_rule;
   full = full_prefix_is_live_exactly_when_complete;
   first = the_answer_is_the_first_complete_ordering;
 }
