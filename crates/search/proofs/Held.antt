@@ -8,7 +8,7 @@ use Rattle.std.proofs.Math.Logic.{∥∥₁_elim}
 use Rattle.std.proofs.Math.Seq.{drop-append_seam}
 use Rattle.search.specs.Prefixes.{has, Apart, Entries, Prefix, padded}
 use Rattle.search.specs.declared.prefixes.Prefix.{Prefix as Listed}
-use Rattle.search.proofs.Listed.{entries_snoc, entries_front, all_middle}
+use Rattle.search.proofs.Listed.{entries_snoc, entries_front, all_middle, apart_middle}
 use Rattle.search.proofs.Orders.{count_unused, length_padded}
 
 -- the first k entries of a, with zeros after them
@@ -65,6 +65,10 @@ module _ {n k : ℕ} {a : List ℕ} (h : Held n k a) where
 
     pub last_range : (1 ≤ get_or a j 0) × (get_or a j 0 ≤ n)
     last_range = all_middle (λ y. (1 ≤ y) × (y ≤ n)) (take j a) (get_or a j 0) [] (rw held_last at h.proper.range)
+
+    -- it is no other entry
+    pub last_unused : has (get_or a j 0) (take j a) ≡ false
+    last_unused = apart_middle (take j a) (get_or a j 0) [] (rw held_last at h.proper.apart)
 
     pub held_less : Held n j (set a j 0)
     held_less =

@@ -3,6 +3,7 @@ pub mod Listed
 pub mod Reached
 pub mod Orders
 pub mod Held
+pub mod Marking
 pub mod Filling
 pub mod Testing
 pub mod Deadness

@@ -1,5 +1,5 @@
 -- Prefixes of orderings, and their listing. Assumes nothing.
-use Rattle.std.specs.Prelude.{◌≡◌, ℕ, zero, suc, ◌-◌, ◌<◌, ◌≤◌, Bool, false, not, ◌||◌, ◌⊎◌, List, [], ◌∷◌, ◌++◌, length, replicate, filter, ◌==◌}
+use Rattle.std.specs.Prelude.{◌≡◌, ℕ, zero, suc, ◌-◌, ◌<◌, ◌≤◌, Bool, false, not, ◌||◌, ◌⊎◌, List, [], ◌∷◌, ◌++◌, length, replicate, filter, ◌==◌, slice_index_or}
 use Rattle.std.specs.List.{AllByRecursion}
 
 -- the k numbers after m, in order
@@ -11,6 +11,10 @@ after m (suc k) = suc m ∷ after (suc m) k
 abbrev pub has : ℕ → List ℕ → Bool
 has x [] = false
 has x (y ∷ ys) = y == x || has x ys
+
+-- at index x a list tells whether x is an entry of q; past its end none is
+abbrev pub Marked : List ℕ → List Bool → Type 0
+Marked q marks = (x : ℕ) → slice_index_or marks x false ≡ has x q
 
 -- the numbers above m, to n, that q lacks
 abbrev pub unused_above : ℕ → List ℕ → ℕ → List ℕ

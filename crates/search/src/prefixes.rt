@@ -1,6 +1,6 @@
 // Prefixes of orderings.
 ghost use Rattle.std.specs.Prelude.{◌≡◌, ◌+◌, ◌-◌, ◌≤◌, false, [], ◌∷◌, slice_index, take, replicate, slice_set, Decides, MatchOption};
-ghost use Rattle.search.specs.Prefixes.{has, unused_above, Entries, padded, completed as completion};
+ghost use Rattle.search.specs.Prefixes.{has, unused_above, Entries, Marked, padded, completed as completion};
 
 // The first entries of an ordering of n variables: distinct ones of these, the greatest first, with zeros after them.
 // It is an array and a length, and no Vec: a rule of the project, as the search has no heap. Its eight bytes, with the zeros,
@@ -10,10 +10,13 @@ pub(crate) struct Prefix {
     entries: [u8; 8],
     len: usize,
     pub(crate) n: u8,
+    // whether each variable, at its own index, is an entry
+    used: [bool; 9],
     ghost few: { n ≤ 8 },
     ghost within: { len ≤ n },
     ghost proper: { ∥ Entries n (take len entries) ∥₁ },
     ghost zeros: { entries ≡ padded (take len entries) },
+    ghost marked: { Marked (take len entries) used },
 }
 
 impl Prefix {
@@ -28,6 +31,7 @@ impl Prefix {
             entries: [0; 8],
             len: 0,
             n,
+            used: [false; 9],
         }
     }
 
@@ -35,7 +39,7 @@ impl Prefix {
     fn has(&self, x: u8) -> bool
         ensures { result ≡ has x (take self.now.len self.now.entries) }
     {
-        self.entries[..self.len].contains(&x)
+        self.used.get(usize::from(x)).is_some_and(|used| *used)
     }
 
     // How many entries there are.
@@ -79,6 +83,7 @@ impl Prefix {
     {
         self.entries[self.len] = x;
         self.len += 1;
+        self.used[usize::from(x)] = true;
     }
 
     // Takes the last entry off.
@@ -90,6 +95,7 @@ impl Prefix {
         let last = self.entries[at];
         self.entries[at] = 0;
         self.len = at;
+        self.used[usize::from(last)] = false;
         Some(last)
     }
 
