@@ -86,57 +86,60 @@ pub(crate) fn clear_column(table: &mut [Limits; 64], count: usize, x: u8)
     }
 }
 
-// The place of a row whose cone holds the product of the row of a place with a power of a variable, the cone of a guess being looked at first.
+// The product of the row of a place with a power of a variable.
+#[derive(Clone, Copy)]
+struct Product<'a, E> {
+    place: usize,
+    row: &'a E,
+    variable: u8,
+    power: u16,
+}
+
+// The place of a row whose cone holds a product, the cone of a guess being looked at first.
 fn cone_sought<E: Element>(
     limited: &Limited<E>,
     kept: &mut Option<Kept<E>>,
-    place: usize,
-    row: &E,
-    variable: u8,
-    power: u16,
+    product: &Product<E>,
     guess: usize,
 ) -> Option<usize>
-    requires row { (place < length limited.now.rows.now) × (row_at (map E.Element.shown limited.now.rows.now) place ≡ E.Element.shown row.now) }
-    requires variable { (1 ≤ variable) × (variable ≤ 8) }
+    requires row { (product.now.place < length limited.now.rows.now) × (row_at (map E.Element.shown limited.now.rows.now) product.now.place ≡ E.Element.shown product.now.row.now) }
+    requires variable { (1 ≤ product.now.variable) × (product.now.variable ≤ 8) }
     requires kept { IfSome kept.old (λ k. k.bars.rows.now ≡ limited.now.rows.now) }
-    ensures cone { MatchOption result ((s : ℕ) → InCone limited.now.n (map E.Element.shown limited.now.rows.now) (limits_of limited.now.limits.now) s (times (E.Element.shown row.now) variable power) → ⊥) (λ s. InCone limited.now.n (map E.Element.shown limited.now.rows.now) (limits_of limited.now.limits.now) s (times (E.Element.shown row.now) variable power)) }
+    ensures cone { MatchOption result ((s : ℕ) → InCone limited.now.n (map E.Element.shown limited.now.rows.now) (limits_of limited.now.limits.now) s (times (E.Element.shown product.now.row.now) product.now.variable product.now.power) → ⊥) (λ s. InCone limited.now.n (map E.Element.shown limited.now.rows.now) (limits_of limited.now.limits.now) s (times (E.Element.shown product.now.row.now) product.now.variable product.now.power)) }
     ensures kept { IfSome kept.new (λ k. k.bars.rows.now ≡ limited.now.rows.now) }
 {
     match kept {
-        None => limited.cone_of_product(row, variable, power, guess),
+        None => { limited.cone_of_product(product.row, product.variable, product.power, guess) }
         Some(kept) => {
-            let places = kept.divisors.of(place, variable);
-            limited.cone_among(places, row, variable, power, guess)
+            let places = kept.divisors.of(product.place, product.variable);
+            limited.cone_among(places, product.row, product.variable, product.power, guess)
         }
     }
 }
 
-// The place of a row whose cone holds the product of a row with a power of a variable. By the limits but for those of variable x it lies in the cone
-// of the place told, unless x is that variable; it is looked for, beginning with a guess, only where x has taken it out of that.
+// The place of a row whose cone holds a product. By the limits but for those of variable x it lies in the cone of the place told, unless it is a product
+// with that variable; it is looked for, beginning with a guess, only where x has taken it out of that.
 fn cone_still<E: Element>(
     limited: &Limited<E>,
     kept: &mut Option<Kept<E>>,
-    place: usize,
-    row: &E,
-    variable: u8,
-    power: u16,
+    product: &Product<E>,
     told: usize,
     guess: usize,
     x: u8,
 ) -> Option<usize>
-    requires row { (place < length limited.now.rows.now) × (row_at (map E.Element.shown limited.now.rows.now) place ≡ E.Element.shown row.now) }
-    requires variable { (1 ≤ variable) × (variable ≤ limited.now.n) × (limited.now.n ≤ 8) }
+    requires row { (product.now.place < length limited.now.rows.now) × (row_at (map E.Element.shown limited.now.rows.now) product.now.place ≡ E.Element.shown product.now.row.now) }
+    requires variable { (1 ≤ product.now.variable) × (product.now.variable ≤ limited.now.n) × (limited.now.n ≤ 8) }
     requires kept { IfSome kept.old (λ k. k.bars.rows.now ≡ limited.now.rows.now) }
-    ensures cone { (variable ≢ x → InCone limited.now.n (map E.Element.shown limited.now.rows.now) (without x (limits_of limited.now.limits.now)) told (times (E.Element.shown row.now) variable power)) → MatchOption result ((s : ℕ) → InCone limited.now.n (map E.Element.shown limited.now.rows.now) (limits_of limited.now.limits.now) s (times (E.Element.shown row.now) variable power) → ⊥) (λ s. InCone limited.now.n (map E.Element.shown limited.now.rows.now) (limits_of limited.now.limits.now) s (times (E.Element.shown row.now) variable power)) }
+    ensures cone { (product.now.variable ≢ x → InCone limited.now.n (map E.Element.shown limited.now.rows.now) (without x (limits_of limited.now.limits.now)) told (times (E.Element.shown product.now.row.now) product.now.variable product.now.power)) → MatchOption result ((s : ℕ) → InCone limited.now.n (map E.Element.shown limited.now.rows.now) (limits_of limited.now.limits.now) s (times (E.Element.shown product.now.row.now) product.now.variable product.now.power) → ⊥) (λ s. InCone limited.now.n (map E.Element.shown limited.now.rows.now) (limits_of limited.now.limits.now) s (times (E.Element.shown product.now.row.now) product.now.variable product.now.power)) }
     ensures kept { IfSome kept.new (λ k. k.bars.rows.now ≡ limited.now.rows.now) }
 {
-    if variable == x {
-        return cone_sought(limited, kept, place, row, variable, power, told);
+    if product.variable == x {
+        return cone_sought(limited, kept, product, told);
     }
-    if limited.is_within(told, row, x) {
+    if limited.is_within(told, product.row, x) {
         return Some(told);
     }
-    cone_sought(limited, kept, place, row, variable, power, guess)
+    cone_sought(limited, kept, product, guess)
 }
 
 // Whether each product lies in a cone, now that variable x has limits. The table of cones tells one of each by the limits but for those of x,
@@ -160,9 +163,13 @@ fn relocate<E: Element>(
             if let Some(power) = limited.limit(place, variable) {
                 let told = cones[place][variable as usize - 1];
                 let guess = former[place][variable as usize - 1];
-                let Some(found) = cone_still(
-                    limited, kept, place, row, variable, power, told, guess, x,
-                ) else {
+                let product = Product {
+                    place,
+                    row,
+                    variable,
+                    power,
+                };
+                let Some(found) = cone_still(limited, kept, &product, told, guess, x) else {
                     return false;
                 };
                 if found != told {
