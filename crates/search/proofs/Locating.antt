@@ -195,7 +195,8 @@ module _ (n : ℕ) (rows : List Shown) (x : ℕ) (lim : Limits) where
 
 -- where variable v has limit d at the row of place p, as the code reads it
 module _ {E : Type 0} (shown : E → Shown) (items : List E) (n x : ℕ) (lim : Limits) (p v : ℕ) (cones : List (List ℕ)) (g : Going n (map shown items) x lim p v cones)
-    (d : ℕ) (item : E) (at : p < length items) (read : item ≡ get_or items p item) (few : length items ≤ 64) (low : 1 ≤ v) (high : v ≤ n) (most : n ≤ 8) (is : lim p v ≡ Some d) where
+    (d : ℕ) (item : E) (at : p < length items) (read : item ≡ get_or items p item) (few : length items ≤ 64) (low : 1 ≤ v) (high : v ≤ n) (most : n ≤ 8) (is : lim p v ≡ Some d)
+    (told : ℕ) (reads : told ≡ get_or (get_or cones p []) (v - 1) 0) where
   here : row (map shown items) p ≡ shown item
   here = row_read shown items p item at read
 
@@ -206,11 +207,11 @@ module _ {E : Type 0} (shown : E → Shown) (items : List E) (n x : ℕ) (lim : 
   all = omega (arith, few, length-map items shown)
 
   -- a cone is found, if one is wherever the place that the table tells holds the product by the limits of the others
-  pub cone_found : (s : ℕ) → (((v ≡ x → ⊥) → InCone n (map shown items) (without x lim) (get_or (get_or cones p []) (v - 1) 0) (times (shown item) v d)) → InCone n (map shown items) lim s (times (shown item) v d)) →
+  pub cone_found : (s : ℕ) → (((v ≡ x → ⊥) → InCone n (map shown items) (without x lim) told (times (shown item) v d)) → InCone n (map shown items) lim s (times (shown item) v d)) →
       Going n (map shown items) x lim p (v + 1) (set cones p (set (get_or cones p []) (v - 1) s))
-  cone_found s found = going_held n (map shown items) x lim p v cones g d (shown item) here l all low high most is s found
+  cone_found s found = going_held n (map shown items) x lim p v cones g d (shown item) here l all low high most is s (rw reads at found)
 
   -- or none is
-  pub none_found : (((v ≡ x → ⊥) → InCone n (map shown items) (without x lim) (get_or (get_or cones p []) (v - 1) 0) (times (shown item) v d)) → (s : ℕ) → InCone n (map shown items) lim s (times (shown item) v d) → ⊥) →
+  pub none_found : (((v ≡ x → ⊥) → InCone n (map shown items) (without x lim) told (times (shown item) v d)) → (s : ℕ) → InCone n (map shown items) lim s (times (shown item) v d) → ⊥) →
       Relocated n (map shown items) x lim false cones
-  none_found none = going_ended n (map shown items) x lim p v cones g d (shown item) here l all low high most is none
+  none_found none = going_ended n (map shown items) x lim p v cones g d (shown item) here l all low high most is (rw reads at none)

@@ -16,8 +16,8 @@ use divisions::Division;
 use elements::Element;
 
 // For the product of a row with the power of a variable that is its limit, the place of a row whose cone holds it: that of variable v at index v - 1,
-// as limits are kept. Places, not references, and no list: a rule of the project, as the search has no heap.
-pub(crate) type Cones = [[usize; 8]; 64];
+// as limits are kept. Places, not references, and no list: a rule of the project, as the search has no heap. A byte holds a place, which is below 64.
+pub(crate) type Cones = [[u8; 8]; 64];
 
 // Writes the limits of variable x into its column, for each of the rows.
 fn fill_column<E: Element, D: Division>(
@@ -131,6 +131,7 @@ fn cone_still<E: Element>(
     requires variable { (1 ≤ product.now.variable) × (product.now.variable ≤ limited.now.n) × (limited.now.n ≤ 8) }
     requires kept { IfSome kept.old (λ k. k.bars.rows.now ≡ limited.now.rows.now) }
     ensures cone { (product.now.variable ≢ x → InCone limited.now.n (map E.Element.shown limited.now.rows.now) (without x (limits_of limited.now.limits.now)) told (times (E.Element.shown product.now.row.now) product.now.variable product.now.power)) → MatchOption result ((s : ℕ) → InCone limited.now.n (map E.Element.shown limited.now.rows.now) (limits_of limited.now.limits.now) s (times (E.Element.shown product.now.row.now) product.now.variable product.now.power) → ⊥) (λ s. InCone limited.now.n (map E.Element.shown limited.now.rows.now) (limits_of limited.now.limits.now) s (times (E.Element.shown product.now.row.now) product.now.variable product.now.power)) }
+    ensures place { IfSome result (λ s. s < length limited.now.rows.now) }
     ensures kept { IfSome kept.new (λ k. k.bars.rows.now ≡ limited.now.rows.now) }
 {
     if product.variable == x {
@@ -169,9 +170,17 @@ fn relocate<E: Element>(
                     variable,
                     power,
                 };
-                let Some(found) = cone_still(limited, kept, &product, told, guess, x) else {
+                let Some(found) = cone_still(
+                    limited,
+                    kept,
+                    &product,
+                    usize::from(told),
+                    usize::from(guess),
+                    x,
+                ) else {
                     return false;
                 };
+                let found = found as u8;
                 if found != told {
                     former[place][variable as usize - 1] = told;
                 }

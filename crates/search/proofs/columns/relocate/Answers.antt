@@ -14,7 +14,7 @@ pub returns-in_default-cone_still-clause-cones : goal.returns-in_default-cone_st
 returns-in_default-cone_still-clause-cones g c = λ l.
     let low : 1 ≤ c.loop-variable.variable = omega arith in
     none_found g.E.Element.shown c.args.limited.now.rows.now _ _ _ _ _ _ (c.loop-variable.invariant.0 l) c.in-Some.power c.row-item.result c.loop-place-test.true c.row-item.is c.requires.places low c.loop-variable-test.true c.requires.variables
-    (sym c.limit.ensures ∙ c.in-Some.is) c.in_default-cone_still.ensures.cone
+    (sym c.limit.ensures ∙ c.in-Some.is) c.from.result c.from.ensures c.in_default-cone_still.ensures.cone
 
 pub loop-variable-preserved : goal.loop-variable-preserved
 loop-variable-preserved g c = (
@@ -23,7 +23,7 @@ loop-variable-preserved g c = (
       elim c.match-limit.branch [
         | in-Some+in-Some-cone_still w ↦ rw w.cones-is
             (cone_found g.E.Element.shown c.args.limited.now.rows.now _ _ _ _ _ _ (c.loop-variable.invariant.0 l) w.in-Some.power c.row-item.result c.loop-place-test.true c.row-item.is c.requires.places low c.loop-variable-test.true c.requires.variables
-            (sym c.limit.ensures ∙ w.in-Some.is) w.in-Some-cone_still.found w.in-Some-cone_still.ensures.cone)
+            (sym c.limit.ensures ∙ w.in-Some.is) w.from.result w.from.ensures w.in-Some-cone_still.found w.in-Some-cone_still.ensures.cone)
         | in_default w ↦ rw w.cones-is (going_past _ _ _ _ _ _ _ (c.loop-variable.invariant.0 l) (sym c.limit.ensures ∙ w.in_default.is))
       ],
   elim c.match-limit.branch [
@@ -41,7 +41,7 @@ loop-place-preserved g c = (
         rw w.cones-is (going_next _ _ _ _ c.loop-place.place (c.loop-variable.variable + 1) w.match-limit.cones (elim w.match-limit.branch [
           | in-Some+in-Some-cone_still y ↦ rw y.cones-is
               (cone_found g.E.Element.shown c.args.limited.now.rows.now _ _ _ _ _ _ (c.loop-variable.invariant.0 l) y.in-Some.power c.row-item.result c.loop-place-test.true c.row-item.is c.requires.places low w.loop-variable-test.true c.requires.variables
-              (sym w.limit.ensures ∙ y.in-Some.is) y.in-Some-cone_still.found y.in-Some-cone_still.ensures.cone)
+              (sym w.limit.ensures ∙ y.in-Some.is) y.from.result y.from.ensures y.in-Some-cone_still.found y.in-Some-cone_still.ensures.cone)
           | in_default y ↦ rw y.cones-is (going_past _ _ _ _ _ _ _ (c.loop-variable.invariant.0 l) (sym w.limit.ensures ∙ y.in_default.is))
         ]) (omega (arith, w.loop-variable-test.true))))
   ],
