@@ -6,7 +6,7 @@ use Rattle.std.proofs.lemmas.Bool.Decides.{same_from_decides, Decides-like}
 use Rattle.elements.specs.Element.{Shown}
 use Rattle.divisions.specs.Laws.{Meaning, Lawful}
 use Rattle.cones.specs.Cones.{Shortfall}
-use Rattle.cones.specs.Tables.{limit_in, limits_at, limits_of}
+use Rattle.cones.specs.Tables.{limits_of}
 use Rattle.cones.proofs.Alike.{Same, same_back}
 use Rattle.search.specs.Prefixes.{has, Entries, Prefix, completed}
 use Rattle.search.specs.Liveness.{RowsOfSheet, prefix_limits, live}
@@ -15,6 +15,7 @@ use Rattle.search.proofs.Entries.{has_snoc}
 use Rattle.search.proofs.Listed.{has_middle, apart_middle, entries_front}
 use Rattle.search.proofs.Orders.{count_unused, completed_front}
 use Rattle.search.proofs.Testing.{only_kept}
+use Rattle.search.proofs.Writing.{start_wide, start_limits}
 use Rattle.search.proofs.Locating.{some_none, located_less, located_alike}
 use Rattle.search.proofs.Deadness.{shortfall_on, live_is_told_by_its_test, begun, same_limits, front_more, has_on}
 
@@ -118,25 +119,7 @@ module _ (m : Meaning) (lawful : Lawful m) (n : ℕ) (rows : List Shown) (s : Ro
 module _ (m : Meaning) (lawful : Lawful m) (n : ℕ) (rows : List Shown) (s : RowsOfSheet n rows) where
   -- no entries, no limits
   pub tabled_start : Tabled m n rows [] (replicate 64 (replicate 8 None))
-  tabled_start = record { wide = wide_start; limits = λ q v hq low high. limits_start q v }
-    where
-      row_start : (q : ℕ) → limits_at (replicate 64 (replicate 8 None)) q ≡ replicate 8 None
-      row_start q = elim (cases_lt q 64) [
-        | inl l ↦ get_or-replicate 64 q (replicate 8 None) (replicate 8 None) l
-        | inr l ↦ get_or_past (replicate 64 (replicate 8 None)) q (replicate 8 None) l
-      ]
-
-      wide_start : (q : ℕ) → length (limits_at (replicate 64 (replicate 8 None)) q) ≡ 8
-      wide_start q = ap length (row_start q)
-
-      none_at : (v : ℕ) → limit_in (replicate 8 None) v ≡ None
-      none_at v = elim (cases_lt v 9) [
-        | inl l ↦ get_or-replicate 9 v None None l
-        | inr l ↦ get_or_past (None ∷ replicate 8 None) v None l
-      ]
-
-      limits_start : (q v : ℕ) → limits_of (replicate 64 (replicate 8 None)) q v ≡ None
-      limits_start q v = ap (λ xs. limit_in xs v) (row_start q) ∙ none_at v
+  tabled_start = record { wide = start_wide; limits = λ q v hq low high. start_limits q v }
 
   -- no limits, no products
   pub located_start : Located n rows (prefix_limits m n rows []) (replicate 64 (replicate 8 0))

@@ -1,15 +1,15 @@
 -- A table of cones while limits come and go. Assumes nothing.
-use Rattle.std.proofs.Common.{◌≡◌, ℕ, ◌+◌, ◌-◌, ◌<◌, ◌≤◌, true, false, eqb, ◌⊎◌, List, map, [], length, get_or, set, replicate, Some, None, Option, sym, refl, ap, ◌∙◌, inl, inr, arith}
-use Rattle.std.proofs.lemmas.List.{length-map, get_or-set_same, get_or-set_other, get_or_default, length-set}
+use Rattle.std.proofs.Common.{◌≡◌, ℕ, ◌+◌, ◌-◌, ◌<◌, ◌≤◌, true, false, not, ◌&&◌, eqb, ◌⊎◌, List, [], length, get_or, set, replicate, Some, None, Option, sym, refl, ap, ◌∙◌, inl, inr, arith}
+use Rattle.std.proofs.lemmas.List.{get_or-set_same, get_or-set_other, get_or_default, length-set}
 use Rattle.std.proofs.lemmas.Bool.{cases_eq, eq-eqb, ne_eqb, cond-true, cond-false, false≢true}
 use Rattle.elements.specs.Element.{Shown, exponent, times, Variable}
 use Rattle.orderings.specs.Rows.{row}
-use Rattle.orderings.proofs.Places.{row_read}
+use Rattle.places.specs.Places.{among}
 use Rattle.cones.specs.Cones.{Limits, InCone}
 use Rattle.cones.proofs.Alike.{Same}
 use Rattle.cones.proofs.Products.{quotient_at}
 use Rattle.search.specs.Liveness.{raised}
-use Rattle.search.specs.Columns.{cones_at, cone_at, Located, without, Relocated}
+use Rattle.search.specs.Columns.{Limiting, cones_at, cone_at, Located, without, Relocated}
 use Rattle.search.proofs.Deadness.{AmongLimits}
 use Rattle.search.proofs.Testing.{times_at}
 
@@ -87,131 +87,130 @@ module _ (cones : List (List ℕ)) (p v s : ℕ) (inside : p < length cones) (wi
     | inr o ↦ ap (λ xs. get_or xs (w - 1) 0) (row_other q o)
   ]
 
--- the products of the rows before place p, and of the row there with the variables below v, are in the cones that the table tells
-pub record Going (n : ℕ) (rows : List Shown) (x : ℕ) (lim : Limits) (p v : ℕ) (cones : List (List ℕ)) : Type 0 where
+-- the products of the places and variables that are done are in the cones that the table tells
+pub record Going (n : ℕ) (rows : List Shown) (x : ℕ) (lim : Limits) (done : ℕ → ℕ → Type 0) (cones : List (List ℕ)) : Type 0 where
   pub long : length cones ≡ 64
   pub others : Located n rows (without x lim) cones
-  pub done : (q w d : ℕ) → (q < p) ⊎ ((q ≡ p) × (w < v)) → q < length rows → 1 ≤ w → w ≤ n → lim q w ≡ Some d → InCone n rows lim (cone_at cones q w) (times (row rows q) w d)
+  pub found : (q w d : ℕ) → done q w → q < length rows → 1 ≤ w → w ≤ n → lim q w ≡ Some d → InCone n rows lim (cone_at cones q w) (times (row rows q) w d)
+
+-- the variables below v are done
+abbrev pub Through : ℕ → ℕ → ℕ → Type 0
+Through v q w = w < v
+
+-- and variable v but at the places that are left
+abbrev pub Beside : ℕ → ℕ → ℕ → ℕ → Type 0
+Beside v left q w = (w < v) ⊎ ((w ≡ v) × (among left q ≡ false))
+
+-- place p is taken out of those
+abbrev pub TakenOut : ℕ → ℕ → ℕ → Type 0
+TakenOut left p rest = (q : ℕ) → among rest q ≡ (not (eqb q p) && among left q)
 
 module _ (n : ℕ) (rows : List Shown) (x : ℕ) (lim : Limits) where
-  pub going_start : (cones : List (List ℕ)) → length cones ≡ 64 → Located n rows (without x lim) cones → Going n rows x lim 0 1 cones
-  going_start cones long l = record {
-    long = long;
-    others = l;
-    done = λ q w d h hq low high e. elim h [ inl a ↦ absurd (omega arith) | inr b ↦ absurd (omega (arith, b.1)) ];
-  }
+  pub going_start : (cones : List (List ℕ)) → length cones ≡ 64 → Located n rows (without x lim) cones → Going n rows x lim (Through 1) cones
+  going_start cones long l = record { long = long; others = l; found = λ q w d h hq low high e. absurd (omega arith) }
 
-  module _ (p v : ℕ) (cones : List (List ℕ)) (g : Going n rows x lim p v cones) where
-    -- no limit here
-    pub going_past : lim p v ≡ None → Going n rows x lim p (v + 1) cones
-    going_past none = record {
+  module _ (v : ℕ) (cones : List (List ℕ)) where
+    -- variable v begins: only the rows of the places that are told for it have limits
+    pub going_in : (left : ℕ) → Limiting (λ q. lim q v) (length rows) left → Going n rows x lim (Through v) cones → Going n rows x lim (Beside v left) cones
+    going_in left limiting g = record {
       long = g.long;
       others = g.others;
-      done = λ q w d h hq low high e. elim h [
-        | inl a ↦ g.done q w d (inl a) hq low high e
-        | inr b ↦ elim (cases_eq w v) [
-          | inl z ↦ some_none d (sym none ∙ ap (λ (i : ℕ). lim i v) (sym b.0) ∙ ap (λ (i : ℕ). lim q i) (sym z) ∙ e)
-          | inr o ↦ g.done q w d (inr (b.0, omega (arith, b.1))) hq low high e
-        ]
+      found = λ q w d h hq low high e. elim h [
+        | inl a ↦ g.found q w d a hq low high e
+        | inr b ↦ absurd (false≢true (sym b.1 ∙ limiting q d hq (ap (λ (i : ℕ). lim q i) (sym b.0) ∙ e)))
       ];
     }
 
-    -- a cone is found
-    going_on : (d s : ℕ) → p < length cones → 1 ≤ v → v ≤ 8 → lim p v ≡ Some d → InCone n rows lim s (times (row rows p) v d) →
-        Going n rows x lim p (v + 1) (set cones p (set (get_or cones p []) (v - 1) s))
-    unfolding written
-    going_on d s inside low high is cone = record {
-      long = length-set cones p (set (get_or cones p []) (v - 1) s) ∙ g.long;
-      others = record {
-        wide = written_wide cones p v s inside g.others.wide low high;
-        cone = λ q w k hq some most e. elim (cases_eq q p) [
-          | inl a ↦ elim (cases_eq w v) [
-            | inl b ↦ here_others q w k a b (without_among n rows x lim q w k hq some most e)
-            | inr b ↦ rw (written_other cones p v s inside g.others.wide low high q w some (λ z. b z.1)) (g.others.cone q w k hq some most e)
-          ]
-          | inr a ↦ rw (written_other cones p v s inside g.others.wide low high q w some (λ z. a z.0)) (g.others.cone q w k hq some most e)
-        ];
-      };
-      done = λ q w k h hq some most e. elim (cases_eq q p) [
-        | inl a ↦ elim (cases_eq w v) [
-          | inl b ↦ here q w k a b e
-          | inr b ↦ rw (written_other cones p v s inside g.others.wide low high q w some (λ z. b z.1))
-              (g.done q w k (elim h [ inl l ↦ inl l | inr l ↦ inr (l.0, omega (arith, l.1)) ]) hq some most e)
-        ]
-        | inr a ↦ rw (written_other cones p v s inside g.others.wide low high q w some (λ z. a z.0))
-            (g.done q w k (elim h [ inl l ↦ inl l | inr l ↦ absurd (a l.0) ]) hq some most e)
-      ];
-    }
-      where
-        here : (q w k : ℕ) → q ≡ p → w ≡ v → lim q w ≡ Some k → InCone n rows lim (cone_at (written cones p v s inside g.others.wide low high) q w) (times (row rows q) w k)
-        here q w k a b e =
-            let same : d ≡ k = cc (rw (a, b) at e, is) in
-            rw (a, b, written_here cones p v s inside g.others.wide low high, sym same) cone
-
-        here_others : (q w k : ℕ) → q ≡ p → w ≡ v → lim q w ≡ Some k → InCone n rows (without x lim) (cone_at (written cones p v s inside g.others.wide low high) q w) (times (row rows q) w k)
-        here_others q w k a b e = cone_less n rows (without x lim) lim (without_among n rows x lim) _ _ (here q w k a b e)
-
-    -- where variable v has limit d at the row u of place p
-    module _ (d : ℕ) (u : Shown) (here : row rows p ≡ u) (l : p < length rows) (few : length rows ≤ 64) (low : 1 ≤ v) (high : v ≤ n) (most : n ≤ 8) (is : lim p v ≡ Some d) where
-      -- the place that the table tells holds the product by the limits of the others
-      abbrev Told : Type 0
-      Told = (v ≡ x → ⊥) → InCone n rows (without x lim) (get_or (get_or cones p []) (v - 1) 0) (times u v d)
-
-      told : Told
-      told other =
-          let inside : p < length cones = omega (arith, g.long) in
-          rw (get_or_default cones p [] (replicate 8 0) inside, ← here) (g.others.cone p v d l low high (without_other n rows x lim p v other ∙ is))
-
-      -- and so a cone is found by all limits
-      going_held : (s : ℕ) → (Told → InCone n rows lim s (times u v d)) → Going n rows x lim p (v + 1) (set cones p (set (get_or cones p []) (v - 1) s))
-      going_held s found = going_on d s (omega (arith, g.long)) low (omega arith) is (rw here (found told))
-
-      -- or none holds the product
-      going_ended : (Told → (s : ℕ) → InCone n rows lim s (times u v d) → ⊥) → Relocated n rows x lim false cones
-      going_ended none = record {
-        told = (λ t. absurd (false≢true t), λ all. absurd (all p v d (record { place = l; low = low; high = high; limit = is; outside = rw here (none told) })));
+    module _ (left : ℕ) (g : Going n rows x lim (Beside v left) cones) where
+      -- no place is left
+      pub going_out : ((p : ℕ) → among left p ≡ false) → Going n rows x lim (Through (v + 1)) cones
+      going_out none = record {
+        long = g.long;
         others = g.others;
-        all = λ t. absurd (false≢true t);
+        found = λ q w d h hq low high e. g.found q w d (elim (cases_eq w v) [ inl z ↦ inr (z, none q) | inr o ↦ inl (omega arith) ]) hq low high e;
       }
 
+      module _ (p rest : ℕ) (taken : TakenOut left p rest) where
+        other_left : (q : ℕ) → (q ≡ p → ⊥) → among rest q ≡ false → among left q ≡ false
+        other_left q o f = rw (taken q, ne_eqb q p o) at f
+
+        -- no limit at the place that is taken out
+        pub going_past : (p < length rows → lim p v ≡ None) → Going n rows x lim (Beside v rest) cones
+        going_past none = record {
+          long = g.long;
+          others = g.others;
+          found = λ q w d h hq low high e. elim h [
+            | inl a ↦ g.found q w d (inl a) hq low high e
+            | inr b ↦ elim (cases_eq q p) [
+              | inl z ↦ some_none d (sym (none (omega (arith, z, hq))) ∙ ap (λ (i : ℕ). lim i v) (sym z) ∙ ap (λ (i : ℕ). lim q i) (sym b.0) ∙ e)
+              | inr o ↦ g.found q w d (inr (b.0, other_left q o b.1)) hq low high e
+            ]
+          ];
+        }
+
+        -- a cone is found there
+        going_on : (d s : ℕ) → p < length cones → 1 ≤ v → v ≤ 8 → lim p v ≡ Some d → InCone n rows lim s (times (row rows p) v d) →
+            Going n rows x lim (Beside v rest) (set cones p (set (get_or cones p []) (v - 1) s))
+        unfolding written
+        going_on d s inside low high is cone = record {
+          long = length-set cones p (set (get_or cones p []) (v - 1) s) ∙ g.long;
+          others = record {
+            wide = written_wide cones p v s inside g.others.wide low high;
+            cone = λ q w k hq some most e. elim (cases_eq q p) [
+              | inl a ↦ elim (cases_eq w v) [
+                | inl b ↦ here_others q w k a b (without_among n rows x lim q w k hq some most e)
+                | inr b ↦ rw (written_other cones p v s inside g.others.wide low high q w some (λ z. b z.1)) (g.others.cone q w k hq some most e)
+              ]
+              | inr a ↦ rw (written_other cones p v s inside g.others.wide low high q w some (λ z. a z.0)) (g.others.cone q w k hq some most e)
+            ];
+          };
+          found = λ q w k h hq some most e. elim (cases_eq q p) [
+            | inl a ↦ elim (cases_eq w v) [
+              | inl b ↦ here q w k a b e
+              | inr b ↦ rw (written_other cones p v s inside g.others.wide low high q w some (λ z. b z.1))
+                  (g.found q w k (elim h [ inl l ↦ inl l | inr l ↦ absurd (b l.0) ]) hq some most e)
+            ]
+            | inr a ↦ rw (written_other cones p v s inside g.others.wide low high q w some (λ z. a z.0))
+                (g.found q w k (elim h [ inl l ↦ inl l | inr l ↦ inr (l.0, other_left q a l.1) ]) hq some most e)
+          ];
+        }
+          where
+            here : (q w k : ℕ) → q ≡ p → w ≡ v → lim q w ≡ Some k → InCone n rows lim (cone_at (written cones p v s inside g.others.wide low high) q w) (times (row rows q) w k)
+            here q w k a b e =
+                let same : d ≡ k = cc (rw (a, b) at e, is) in
+                rw (a, b, written_here cones p v s inside g.others.wide low high, sym same) cone
+
+            here_others : (q w k : ℕ) → q ≡ p → w ≡ v → lim q w ≡ Some k → InCone n rows (without x lim) (cone_at (written cones p v s inside g.others.wide low high) q w) (times (row rows q) w k)
+            here_others q w k a b e = cone_less n rows (without x lim) lim (without_among n rows x lim) _ _ (here q w k a b e)
+
+      -- where variable v has limit d at the row u of place p, as the code reads it
+      module _ (p d : ℕ) (u : Shown) (here : row rows p ≡ u) (l : p < length rows) (few : length rows ≤ 64) (low : 1 ≤ v) (high : v ≤ n) (most : n ≤ 8) (is : lim p v ≡ Some d)
+          (told : ℕ) (reads : told ≡ get_or (get_or cones p []) (v - 1) 0) where
+        -- the place that the table tells holds the product by the limits of the others
+        abbrev Told : Type 0
+        Told = (v ≡ x → ⊥) → InCone n rows (without x lim) told (times u v d)
+
+        holds : Told
+        holds other =
+            let inside : p < length cones = omega (arith, g.long) in
+            rw (reads, get_or_default cones p [] (replicate 8 0) inside, ← here) (g.others.cone p v d l low high (without_other n rows x lim p v other ∙ is))
+
+        -- a cone is found, if one is wherever that is so
+        pub cone_found : (s rest : ℕ) → TakenOut left p rest → (Told → InCone n rows lim s (times u v d)) → Going n rows x lim (Beside v rest) (set cones p (set (get_or cones p []) (v - 1) s))
+        cone_found s rest taken found = going_on p rest taken d s (omega (arith, g.long)) low (omega arith) is (rw here (found holds))
+
+        -- or none holds the product
+        pub none_found : (Told → (s : ℕ) → InCone n rows lim s (times u v d) → ⊥) → Relocated n rows x lim false cones
+        none_found none = record {
+          told = (λ t. absurd (false≢true t), λ all. absurd (all p v d (record { place = l; low = low; high = high; limit = is; outside = rw here (none holds) })));
+          others = g.others;
+          all = λ t. absurd (false≢true t);
+        }
+
     -- the variables are through
-    pub going_next : n < v → Going n rows x lim (p + 1) 1 cones
-    going_next through = record {
-      long = g.long;
+    pub going_done : n < v → Going n rows x lim (Through v) cones → Relocated n rows x lim true cones
+    going_done through g = record {
+      told = (λ _ q w d short. short.outside (cone_at cones q w) (g.found q w d (omega (arith, short.high)) short.place short.low short.high short.limit), λ _. refl);
       others = g.others;
-      done = λ q w d h hq low high e. g.done q w d (elim h [
-        | inl a ↦ elim (cases_eq q p) [ inl z ↦ inr (z, omega arith) | inr o ↦ inl (omega arith) ]
-        | inr b ↦ absurd (omega (arith, b.1))
-      ]) hq low high e;
+      all = λ _. record { wide = g.others.wide; cone = λ q w d hq low high e. g.found q w d (omega arith) hq low high e };
     }
-
-    -- the rows are through
-    pub going_done : length rows ≤ p → Relocated n rows x lim true cones
-    going_done through = record {
-      told = (λ _ q w d short. short.outside (cone_at cones q w) (g.done q w d (inl (omega (arith, short.place))) short.place short.low short.high short.limit), λ _. refl);
-      others = g.others;
-      all = λ _. record { wide = g.others.wide; cone = λ q w d hq low high e. g.done q w d (inl (omega arith)) hq low high e };
-    }
-
--- where variable v has limit d at the row of place p, as the code reads it
-module _ {E : Type 0} (shown : E → Shown) (items : List E) (n x : ℕ) (lim : Limits) (p v : ℕ) (cones : List (List ℕ)) (g : Going n (map shown items) x lim p v cones)
-    (d : ℕ) (item : E) (at : p < length items) (read : item ≡ get_or items p item) (few : length items ≤ 64) (low : 1 ≤ v) (high : v ≤ n) (most : n ≤ 8) (is : lim p v ≡ Some d)
-    (told : ℕ) (reads : told ≡ get_or (get_or cones p []) (v - 1) 0) where
-  here : row (map shown items) p ≡ shown item
-  here = row_read shown items p item at read
-
-  l : p < length (map shown items)
-  l = omega (arith, at, length-map items shown)
-
-  all : length (map shown items) ≤ 64
-  all = omega (arith, few, length-map items shown)
-
-  -- a cone is found, if one is wherever the place that the table tells holds the product by the limits of the others
-  pub cone_found : (s : ℕ) → (((v ≡ x → ⊥) → InCone n (map shown items) (without x lim) told (times (shown item) v d)) → InCone n (map shown items) lim s (times (shown item) v d)) →
-      Going n (map shown items) x lim p (v + 1) (set cones p (set (get_or cones p []) (v - 1) s))
-  cone_found s found = going_held n (map shown items) x lim p v cones g d (shown item) here l all low high most is s (rw reads at found)
-
-  -- or none is
-  pub none_found : (((v ≡ x → ⊥) → InCone n (map shown items) (without x lim) told (times (shown item) v d)) → (s : ℕ) → InCone n (map shown items) lim s (times (shown item) v d) → ⊥) →
-      Relocated n (map shown items) x lim false cones
-  none_found none = going_ended n (map shown items) x lim p v cones g d (shown item) here l all low high most is (rw reads at none)

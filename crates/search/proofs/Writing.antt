@@ -1,9 +1,32 @@
 -- A column written place by place. Assumes nothing.
-use Rattle.std.proofs.Common.{◌≡◌, ℕ, zero, suc, ◌+◌, ◌-◌, ◌<◌, ◌≤◌, cond, eqb, List, [], ◌++◌, length, get_or, set, replicate, None, Option, sym, refl, ap, ◌∙◌, inl, inr, arith, length-append}
-use Rattle.std.proofs.lemmas.List.{get_or-set_same, get_or-set_other, get_or_default, length-set, set-append_left, get_or_append_left}
-use Rattle.std.proofs.lemmas.Bool.{cases_eq, eq-eqb, ne_eqb, cond-true, cond-false}
+use Rattle.std.proofs.Common.{◌≡◌, ℕ, zero, suc, ◌+◌, ◌-◌, ◌<◌, ◌≤◌, false, cond, eqb, ◌||◌, List, [], ◌∷◌, ◌++◌, length, get_or, set, replicate, Some, None, Option, sym, refl, ap, ◌∙◌, inl, inr, arith, length-append}
+use Rattle.std.specs.Option.{is_some}
+use Rattle.std.proofs.lemmas.List.{get_or-replicate, get_or_past, get_or-set_same, get_or-set_other, get_or_default, length-set, set-append_left, get_or_append_left}
+use Rattle.std.proofs.lemmas.Bool.{cases_eq, cases_lt, eq-eqb, ne_eqb, or_left, or_right, cond-true, cond-false, false≢true}
 use Rattle.cones.specs.Tables.{limit_in, limits_at, limits_of}
-use Rattle.search.specs.Columns.{Wide}
+use Rattle.places.specs.Places.{among}
+use Rattle.places.specs.declared.Places.{Places}
+use Rattle.search.specs.Columns.{Wide, Limiting, Placed}
+
+pub no_limit : {X : Type 0} (d : ℕ) → ◌≡◌ {A = Option ℕ} None (Some d) → X
+no_limit d e = absurd (let z : ◌≡◌ {A = ℕ} 0 1 = cc in omega arith)
+
+-- a table without limits
+module _ (q : ℕ) where
+  start_row : limits_at (replicate 64 (replicate 8 None)) q ≡ replicate 8 None
+  start_row = elim (cases_lt q 64) [
+    | inl l ↦ get_or-replicate 64 q (replicate 8 None) (replicate 8 None) l
+    | inr l ↦ get_or_past (replicate 64 (replicate 8 None)) q (replicate 8 None) l
+  ]
+
+  pub start_wide : length (limits_at (replicate 64 (replicate 8 None)) q) ≡ 8
+  start_wide = ap length start_row
+
+  pub start_limits : (v : ℕ) → limits_of (replicate 64 (replicate 8 None)) q v ≡ None
+  start_limits v = ap (λ xs. limit_in xs v) start_row ∙ elim (cases_lt v 9) [
+    | inl l ↦ get_or-replicate 9 v None None l
+    | inr l ↦ get_or_past (None ∷ replicate 8 None) v None l
+  ]
 
 -- column x is written at the places below k, and the rest is as it was
 pub record Writing (f : ℕ → Option ℕ) (x k : ℕ) (old new : List (List (Option ℕ))) : Type 0 where
@@ -68,3 +91,36 @@ writing_front {f} {x} {k} {old} items rest w within low high o is =
 pub writing_end : (f : ℕ → Option ℕ) (x k n : ℕ) (old new : List (List (Option ℕ))) → n ≤ k → Writing f x k old new →
     Wide new × ((q v : ℕ) → q < n → limits_of new q v ≡ cond (eqb v x) (f q) (limits_of old q v))
 writing_end f x k n old new l w = (w.wide, λ q v h. w.done q v (omega arith))
+
+module _ (f : ℕ → Option ℕ) (k bits : ℕ) (l : Limiting f k bits) where
+  -- the next place has a limit
+  pub limiting_with : (more : ℕ) → ((p : ℕ) → among more p ≡ (eqb p k || among bits p)) → Limiting f (k + 1) more
+  limiting_with more put q d below is = put q ∙ elim (cases_eq q k) [
+    | inl e ↦ or_left (eqb q k) (among bits q) (eq-eqb q k e)
+    | inr o ↦ or_right (eqb q k) (among bits q) (l q d (omega arith) is)
+  ]
+
+  -- it has none
+  pub limiting_past : (o : Option ℕ) → o ≡ f k → false ≡ is_some o → Limiting f (k + 1) bits
+  limiting_past (Some e) same bare q d below is = absurd (false≢true bare)
+  limiting_past None same bare q d below is = elim (cases_eq q k) [
+    | inl e ↦ no_limit d (same ∙ ap f (sym e) ∙ is)
+    | inr o ↦ l q d (omega arith) is
+  ]
+
+  pub limiting_end : (n : ℕ) → n ≤ k → Limiting f n bits
+  limiting_end n most q d below is = l q d (omega arith) is
+
+-- a column is written with the places of its limits
+pub placed_more : (f : ℕ → Option ℕ) (x k : ℕ) (old new : List (List (Option ℕ))) (places : List Places) (filled : Places) → 1 ≤ x → x ≤ 8 → length places ≡ 8 →
+    Wide old → (Wide old → Wide new × ((q v : ℕ) → q < k → limits_of new q v ≡ cond (eqb v x) (f q) (limits_of old q v))) →
+    Limiting f k filled.bits → Placed k old places → Placed k new (set places (x - 1) filled)
+placed_more f x k old new places filled low high long wide written limiting placed v some most q d below is =
+    let now : limits_of new q v ≡ cond (eqb v x) (f q) (limits_of old q v) = (written wide).1 q v below in
+    elim (cases_eq v x) [
+      | inl e ↦ ap (λ (i : ℕ). among (get_or (set places (x - 1) filled) i (record { bits = 0 })).bits q) (let same : v - 1 ≡ x - 1 = omega arith in same)
+          ∙ ap (λ (p : Places). among p.bits q) (get_or-set_same places (x - 1) filled (record { bits = 0 }) (omega (arith, long)))
+          ∙ limiting q d below (sym (cond-true (eqb v x) (f q) (limits_of old q v) (eq-eqb v x e)) ∙ sym now ∙ is)
+      | inr o ↦ ap (λ (p : Places). among p.bits q) (get_or-set_other places (x - 1) (v - 1) filled (record { bits = 0 }) (λ e. o (omega arith)))
+          ∙ placed v some most q d below (sym (cond-false (eqb v x) (f q) (limits_of old q v) (ne_eqb v x o)) ∙ sym now ∙ is)
+    ]

@@ -2,6 +2,8 @@
 use Rattle.std.specs.Prelude.{◌≡◌, ℕ, ◌-◌, ◌<◌, ◌≤◌, Bool, true, cond, List, length, replicate, Some, None, Option, Decides, ◌==◌, slice_index_or}
 use Rattle.elements.specs.Element.{Shown, times}
 use Rattle.orderings.specs.Rows.{row}
+use Rattle.places.specs.Places.{among}
+use Rattle.places.specs.declared.Places.{Places}
 use Rattle.divisions.specs.Laws.{Meaning}
 use Rattle.cones.specs.Cones.{Limits, InCone, Shortfall}
 use Rattle.cones.specs.Tables.{limits_at, limits_of}
@@ -15,6 +17,18 @@ Wide table = (q : ℕ) → length (limits_at table q) ≡ 8
 abbrev pub Written : (ℕ → Option ℕ) → ℕ → ℕ → List (List (Option ℕ)) → List (List (Option ℕ)) → Type 0
 Written f x k old new =
     Wide old → Wide new × ((q v : ℕ) → q < k → limits_of new q v ≡ cond (v == x) (f q) (limits_of old q v))
+
+-- the places below k where f has a limit are among those of the bits
+abbrev pub Limiting : (ℕ → Option ℕ) → ℕ → ℕ → Type 0
+Limiting f k bits = (q d : ℕ) → q < k → f q ≡ Some d → among bits q ≡ true
+
+-- the bits of the places that a list tells for variable v, which counts from 1
+abbrev pub bits_of : List Places → ℕ → ℕ
+bits_of places v = (slice_index_or places (v - 1) (record { bits = 0 })).bits
+
+-- the places below k where a variable has a limit are among those that the list tells for it
+abbrev pub Placed : ℕ → List (List (Option ℕ)) → List Places → Type 0
+Placed k table places = (v : ℕ) → 1 ≤ v → v ≤ 8 → Limiting (λ q. limits_of table q v) k (bits_of places v)
 
 -- the table has the limits of a prefix's variables and no others
 pub record Tabled (m : Meaning) (n : ℕ) (rows : List Shown) (p : List ℕ) (table : List (List (Option ℕ))) : Type 0 where

@@ -46,7 +46,7 @@ pub fn search<E: Element, D: Division>(division: &D, rows: &[E], n: u8) -> Found
         };
     }
     let mut prefix = Prefix::new(n);
-    let mut table = [[None; 8]; 64];
+    let mut table = Table::new(rows.len());
     let mut cones = [[0; 8]; 64];
     let mut former = [[0; 8]; 64];
     let mut kept = None;
@@ -60,7 +60,7 @@ pub fn search<E: Element, D: Division>(division: &D, rows: &[E], n: u8) -> Found
                     break 'walk None;
                 };
                 from = last;
-                clear_column(&mut table, rows.len(), from);
+                clear_column(&mut table, from);
             }
             Some(x) => {
                 prefix.push(x);
@@ -79,7 +79,7 @@ pub fn search<E: Element, D: Division>(division: &D, rows: &[E], n: u8) -> Found
                 ) {
                     prefix.pop();
                     from = x;
-                    clear_column(&mut table, rows.len(), x);
+                    clear_column(&mut table, x);
                 } else if prefix.is_full() {
                     break 'walk Some(prefix.completed());
                 } else {

@@ -15,6 +15,6 @@ returns-clause-extended g c = λ s t l.
     let shown = g.E.Element.shown in
     let p = c.args.prefix.now in
     extended (g.D.Division.meaning c.args.division.now) (g.met.D.Division.lawful c.args.division.now) p.n (map shown c.args.rows.now) s
-    _ _ c.last-x.result c.completed-order.result c.args.table.now c.write_column.new.table c.args.cones.now c.relocate.new.cones _ c.relocate.result
+    _ _ c.last-x.result c.completed-order.result c.args.table.now.limits c.write_column.new.table.limits c.args.cones.now c.relocate.new.cones _ c.relocate.result
     (rw c.last-x.ensures at (held_last (held p) (p.len - 1) (omega (arith, c.requires.some)))) (held_prefix (held p) c.requires.some)
     c.completed-order.ensures (length-map c.args.rows.now shown) t l c.write_column.ensures.column c.relocate.ensures.cones

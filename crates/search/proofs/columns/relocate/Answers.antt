@@ -1,58 +1,42 @@
-use Rattle.std.proofs.Common.{◌+◌, ◌≤◌, sym, ◌∙◌, arith}
+use Rattle.std.proofs.Common.{◌+◌, ◌≤◌, arith}
 use Rattle.std.proofs.lemmas.List.{length-map}
-use Rattle.search.proofs.Locating.{going_start, going_past, cone_found, none_found, going_next, going_done}
+use Rattle.search.proofs.Locating.{going_in, going_past, cone_found, none_found, going_out, going_done}
 use Rattle.search.proofs.columns.relocate.Goals as goal
-use Rattle.search.proofs.columns.relocate.Goals.{else-loop-variable-test, then-loop-variable-test+else-variable-variable-end, in-Some+in-Some-cone_still, in_default}
 
 pub loop-place-init : goal.loop-place-init
-loop-place-init g c = (λ l. going_start _ _ _ _ _ c.told-cones l, c.requires.kept)
-
-pub loop-variable-init : goal.loop-variable-init
-loop-variable-init g c = c.loop-place.invariant
+loop-place-init g c = (
+  λ l.
+      let rows = c.args.limited.now.rows.now in
+      let low : 1 ≤ c.loop-variable.variable = omega arith in
+      going_in _ _ _ _ _ _ _ (λ q d b. c.requires.places c.loop-variable.variable low (omega (arith, c.loop-variable-test.true, c.requires.variables)) q d (omega (arith, b, length-map rows g.E.Element.shown)))
+      (c.loop-variable.invariant.0 l),
+  c.loop-variable.invariant.1,
+)
 
 pub returns-in_default-cone_still-clause-cones : goal.returns-in_default-cone_still-clause-cones
 returns-in_default-cone_still-clause-cones g c = λ l.
+    let is = c.in-Some-product_of.ensures in
+    let rows = c.args.limited.now.rows.now in
     let low : 1 ≤ c.loop-variable.variable = omega arith in
-    none_found g.E.Element.shown c.args.limited.now.rows.now _ _ _ _ _ _ (c.loop-variable.invariant.0 l) c.in-Some.power c.row-item.result c.loop-place-test.true c.row-item.is c.requires.places low c.loop-variable-test.true c.requires.variables
-    (sym c.limit.ensures ∙ c.in-Some.is) c.from.result c.from.ensures c.in_default-cone_still.ensures.cone
+    none_found _ _ _ _ _ _ _ (c.loop-place.invariant.0 l) c.in-Some.place _ _ is.3 (omega (arith, is.2, length-map rows g.E.Element.shown)) (omega (arith, c.requires.rows, length-map rows g.E.Element.shown)) low c.loop-variable-test.true c.requires.variables is.4
+    c.from.result c.from.ensures (rw is.1 at c.in_default-cone_still.ensures.cone)
 
-pub loop-variable-preserved : goal.loop-variable-preserved
-loop-variable-preserved g c = (
+pub loop-place-preserved-in-Some-product_of : goal.loop-place-preserved-in-Some-product_of
+loop-place-preserved-in-Some-product_of g c = (
   λ l.
+      let is = c.in-Some-product_of.ensures in
+      let rows = c.args.limited.now.rows.now in
       let low : 1 ≤ c.loop-variable.variable = omega arith in
-      elim c.match-limit.branch [
-        | in-Some+in-Some-cone_still w ↦ rw w.cones-is
-            (cone_found g.E.Element.shown c.args.limited.now.rows.now _ _ _ _ _ _ (c.loop-variable.invariant.0 l) w.in-Some.power c.row-item.result c.loop-place-test.true c.row-item.is c.requires.places low c.loop-variable-test.true c.requires.variables
-            (sym c.limit.ensures ∙ w.in-Some.is) w.from.result w.from.ensures w.in-Some-cone_still.found w.in-Some-cone_still.ensures.cone)
-        | in_default w ↦ rw w.cones-is (going_past _ _ _ _ _ _ _ (c.loop-variable.invariant.0 l) (sym c.limit.ensures ∙ w.in_default.is))
-      ],
-  elim c.match-limit.branch [
-    | in-Some+in-Some-cone_still w ↦ rw w.kept-is w.cone_still.ensures.kept
-    | in_default w ↦ rw w.kept-is c.loop-variable.invariant.1
-  ],
+      cone_found _ _ _ _ _ _ _ (c.loop-place.invariant.0 l) c.in-Some.place _ _ is.3 (omega (arith, is.2, length-map rows g.E.Element.shown)) (omega (arith, c.requires.rows, length-map rows g.E.Element.shown)) low c.loop-variable-test.true c.requires.variables is.4
+      c.from.result c.from.ensures c.in-Some-cone_still.found _ c.in-Some.ensures.rest (rw is.1 at c.in-Some-cone_still.ensures.cone),
+  c.cone_still.ensures.kept,
 )
 
 pub loop-place-preserved : goal.loop-place-preserved
-loop-place-preserved g c = (
-  λ l. elim c.loop-variable-test.branch [
-    | else-loop-variable-test w ↦ rw w.cones-is (going_next _ _ _ _ c.loop-place.place c.loop-variable.variable c.loop-variable.cones (c.loop-variable.invariant.0 l) (omega (arith, w.loop-variable-test.false)))
-    | then-loop-variable-test+else-variable-variable-end w ↦ (
-        let low : 1 ≤ c.loop-variable.variable = omega arith in
-        rw w.cones-is (going_next _ _ _ _ c.loop-place.place (c.loop-variable.variable + 1) w.match-limit.cones (elim w.match-limit.branch [
-          | in-Some+in-Some-cone_still y ↦ rw y.cones-is
-              (cone_found g.E.Element.shown c.args.limited.now.rows.now _ _ _ _ _ _ (c.loop-variable.invariant.0 l) y.in-Some.power c.row-item.result c.loop-place-test.true c.row-item.is c.requires.places low w.loop-variable-test.true c.requires.variables
-              (sym w.limit.ensures ∙ y.in-Some.is) y.from.result y.from.ensures y.in-Some-cone_still.found y.in-Some-cone_still.ensures.cone)
-          | in_default y ↦ rw y.cones-is (going_past _ _ _ _ _ _ _ (c.loop-variable.invariant.0 l) (sym w.limit.ensures ∙ y.in_default.is))
-        ]) (omega (arith, w.loop-variable-test.true))))
-  ],
-  elim c.loop-variable-test.branch [
-    | else-loop-variable-test w ↦ rw w.kept-is c.loop-variable.invariant.1
-    | then-loop-variable-test+else-variable-variable-end w ↦ rw w.kept-is (elim w.match-limit.branch [
-      | in-Some+in-Some-cone_still y ↦ rw y.kept-is y.cone_still.ensures.kept
-      | in_default y ↦ rw y.kept-is c.loop-variable.invariant.1
-    ])
-  ],
-)
+loop-place-preserved g c = (λ l. going_past _ _ _ _ _ _ _ (c.loop-place.invariant.0 l) _ _ c.in-Some.ensures.rest (λ b. c.in_default-product_of.ensures (omega (arith, b, length-map c.args.limited.now.rows.now g.E.Element.shown))), c.loop-place.invariant.1)
 
-pub returns-clause-cones : goal.returns-clause-cones
-returns-clause-cones g c = λ l. going_done _ _ _ _ c.loop-place.place _ _ (c.loop-place.invariant.0 l) (omega (arith, c.loop-place-test.false, length-map c.args.limited.now.rows.now g.E.Element.shown))
+pub loop-variable-preserved : goal.loop-variable-preserved
+loop-variable-preserved g c = (λ l. going_out _ _ _ _ _ _ _ (c.loop-place.invariant.0 l) c.in_default.ensures.first, c.loop-place.invariant.1)
+
+pub returns-in_default-clause-cones : goal.returns-in_default-clause-cones
+returns-in_default-clause-cones g c = λ l. going_done _ _ _ _ (c.loop-variable.variable + 1) _ (omega arith) (going_out _ _ _ _ _ _ _ (c.loop-place.invariant.0 l) c.in_default.ensures.first)

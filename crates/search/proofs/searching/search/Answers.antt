@@ -1,4 +1,4 @@
-use Rattle.std.proofs.Common.{◌≡◌, ℕ, ◌≤◌, List, length, None, Option, refl, arith}
+use Rattle.std.proofs.Common.{◌≡◌, ℕ, ◌≤◌, List, length, None, Option, sym, refl, ◌∙◌, arith}
 use Rattle.std.specs.Option.{option_map}
 use Rattle.std.proofs.lemmas.Bool.Decides.{not_from_Decides}
 use Rattle.std.proofs.lemmas.List.{length-map}
@@ -18,14 +18,16 @@ use Rattle.search.proofs.searching.search.Goals as goal
 
 pub walk-init : goal.walk-init
 walk-init g c = (
-  walking_start (g.met.D.Division.lawful c.args.division.now) (c.is_variable_count.ensures.0 c.if-not-is_variable_count.false).some c.new-prefix.result
-      c.new-prefix.ensures.len c.new-prefix.ensures.same,
+  rw c.new-table.ensures.limits
+      (walking_start (g.met.D.Division.lawful c.args.division.now) (c.is_variable_count.ensures.0 c.if-not-is_variable_count.false).some c.new-prefix.result
+      c.new-prefix.ensures.len c.new-prefix.ensures.same),
   tt,
+  c.new-table.ensures.count,
 )
 
 pub clear_column-requires : goal.clear_column-requires
 clear_column-requires g c =
-    record { places = omega arith; column = pop_range (g.met.D.Division.lawful c.args.division.now) c.walk.invariant.0 c.in-None.ensures c.pop.new.self c.in-Some-pop.ensures }
+    pop_range (g.met.D.Division.lawful c.args.division.now) c.walk.invariant.0 c.in-None.ensures c.pop.new.self c.in-Some-pop.ensures
 
 pub walk-smaller-in-None : goal.walk-smaller-in-None
 walk-smaller-in-None g c =
@@ -34,8 +36,9 @@ walk-smaller-in-None g c =
 pub walk-preserved-in-None : goal.walk-preserved-in-None
 walk-preserved-in-None g c = (
   walking_back (g.met.D.Division.lawful c.args.division.now) c.walk.invariant.0 c.in-None.ensures c.pop.new.self c.in-Some-pop.ensures
-      c.clear_column.new.table _ (length-map c.args.rows.now g.E.Element.shown) c.clear_column.ensures,
+      c.clear_column.new.table.limits _ (length-map c.args.rows.now g.E.Element.shown ∙ sym c.walk.invariant.2) c.clear_column.ensures.column,
   c.walk.invariant.1,
+  c.clear_column.ensures.count ∙ c.walk.invariant.2,
 )
 
 pub push-requires : goal.push-requires
@@ -47,7 +50,7 @@ pub overflow_add-tested : goal.overflow_add-tested
 overflow_add-tested g c = omega (arith, tests_fit (g.met.D.Division.lawful c.args.division.now) c.walk.invariant.0)
 
 pub clear_column-requires-then-not-extend : goal.clear_column-requires-then-not-extend
-clear_column-requires-then-not-extend g c = record { places = omega arith; column = next_range (g.met.D.Division.lawful c.args.division.now) c.walk.invariant.0 c.in-Some.x c.in-Some.ensures }
+clear_column-requires-then-not-extend g c = next_range (g.met.D.Division.lawful c.args.division.now) c.walk.invariant.0 c.in-Some.x c.in-Some.ensures
 
 pub walk-smaller-then-not-extend : goal.walk-smaller-then-not-extend
 walk-smaller-then-not-extend g c =
@@ -56,8 +59,10 @@ walk-smaller-then-not-extend g c =
 pub walk-preserved-then-not-extend : goal.walk-preserved-then-not-extend
 walk-preserved-then-not-extend g c = (
   walking_dead (g.met.D.Division.lawful c.args.division.now) c.walk.invariant.0 c.in-Some.x c.in-Some.ensures c.push.new.self c.push.ensures _ _ _ c.extend.ensures.extended
-      _ c.pop-then-not-extend.new.self c.pop-then-not-extend.ensures c.if-not-extend.true _ _ (length-map c.args.rows.now g.E.Element.shown) c.clear_column-then-not-extend.ensures,
+      _ c.pop-then-not-extend.new.self c.pop-then-not-extend.ensures c.if-not-extend.true _ _ (length-map c.args.rows.now g.E.Element.shown ∙ sym (c.extend.ensures.count ∙ c.walk.invariant.2))
+      c.clear_column-then-not-extend.ensures.column,
   c.extend.ensures.kept,
+  c.clear_column-then-not-extend.ensures.count ∙ c.extend.ensures.count ∙ c.walk.invariant.2,
 )
 
 pub walk-smaller : goal.walk-smaller
@@ -70,6 +75,7 @@ walk-preserved g c = (
   walking_on (g.met.D.Division.lawful c.args.division.now) c.walk.invariant.0 c.in-Some.x c.in-Some.ensures c.push.new.self c.push.ensures _ _ _ c.extend.ensures.extended
       c.if-not-extend.false (not_from_Decides _ c.is_full.ensures c.if-is_full.false),
   c.extend.ensures.kept,
+  c.extend.ensures.count ∙ c.walk.invariant.2,
 )
 
 -- what is found, and the theorems

@@ -1,7 +1,7 @@
 use Rattle.std.proofs.Common.{◌++◌, drop, None}
 use Rattle.search.specs.Columns.{Wide}
 use Rattle.search.proofs.Writing.{Writing}
-use Rattle.search.proofs.columns.clear_column.Given as goal
+use Rattle.search.proofs.columns.clear_limits.Given as goal
 
 -- the column is clear so far
 abbrev pub invariant-loop-limits : goal.invariant-loop-limits
