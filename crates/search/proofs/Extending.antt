@@ -122,11 +122,11 @@ module _ (m : Meaning) (lawful : Lawful m) (n : ℕ) (rows : List Shown) (s : Ro
   tabled_start = record { wide = start_wide; limits = λ q v hq low high. start_limits q v }
 
   -- no limits, no products
-  pub located_start : Located n rows (prefix_limits m n rows []) (replicate 64 (replicate 8 0))
+  pub located_start : Located n rows (prefix_limits m n rows []) (replicate 64 (replicate 8 64))
   located_start = record { wide = wide_cones; cone = λ q v d hq low high e. some_none d e }
     where
-      wide_cones : (q : ℕ) → length (cones_at (replicate 64 (replicate 8 0)) q) ≡ 8
+      wide_cones : (q : ℕ) → length (cones_at (replicate 64 (replicate 8 64)) q) ≡ 8
       wide_cones q = elim (cases_lt q 64) [
-        | inl l ↦ ap length (get_or-replicate 64 q (replicate 8 0) (replicate 8 0) l)
-        | inr l ↦ ap length (get_or_past (replicate 64 (replicate 8 0)) q (replicate 8 0) l)
+        | inl l ↦ ap length (get_or-replicate 64 q (replicate 8 64) (replicate 8 0) l)
+        | inr l ↦ ap length (get_or_past (replicate 64 (replicate 8 64)) q (replicate 8 0) l)
       ]

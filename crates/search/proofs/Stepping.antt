@@ -56,7 +56,7 @@ module _ (p : Prefix) (x : ℕ) (q : Prefix) (on : Pushed p x q) (b : Prefix) wh
   back o pops = let (len, entries) = off o pops in (len, entries ∙ rw (len, on.entries) refl)
 
 module _ {m : Meaning} (lawful : Lawful m) {n : ℕ} {rows : List Shown} where
-  pub walking_start : 1 ≤ n → (p : Prefix) → p.len ≡ 0 → p.n ≡ n → Walking m n rows p 0 0 (replicate 64 (replicate 8 None)) (replicate 64 (replicate 8 0))
+  pub walking_start : 1 ≤ n → (p : Prefix) → p.len ≡ 0 → p.n ≡ n → Walking m n rows p 0 0 (replicate 64 (replicate 8 None)) (replicate 64 (replicate 8 64))
   walking_start some p z same = record {
     same = same;
     stands = rw z (start n p.entries some);

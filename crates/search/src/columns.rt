@@ -20,6 +20,9 @@ use places::Places;
 // as limits are kept. Places, not references, and no list: a rule of the project, as the search has no heap. A byte holds a place, which is below 64.
 pub(crate) type Cones = [[u8; 8]; 64];
 
+// No place: past those of all rows.
+pub(crate) const NOWHERE: u8 = 64;
+
 // The limits of so many rows, of eight variables each.
 #[derive(Drop)]
 pub(crate) struct Table {

@@ -47,8 +47,8 @@ pub fn search<E: Element, D: Division>(division: &D, rows: &[E], n: u8) -> Found
     }
     let mut prefix = Prefix::new(n);
     let mut table = Table::new(rows.len());
-    let mut cones = [[0; 8]; 64];
-    let mut former = [[0; 8]; 64];
+    let mut cones = [[NOWHERE; 8]; 64];
+    let mut former = [[NOWHERE; 8]; 64];
     let mut kept = None;
     let mut from: u8 = 0;
     let mut tested: u32 = 0;
