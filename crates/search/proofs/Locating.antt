@@ -106,9 +106,6 @@ abbrev pub TakenOut : ℕ → ℕ → ℕ → Type 0
 TakenOut left p rest = (q : ℕ) → among rest q ≡ (not (eqb q p) && among left q)
 
 module _ (n : ℕ) (rows : List Shown) (x : ℕ) (lim : Limits) where
-  pub going_start : (cones : List (List ℕ)) → length cones ≡ 64 → Located n rows (without x lim) cones → Going n rows x lim (Through 1) cones
-  going_start cones long l = record { long = long; others = l; found = λ q w d h hq low high e. absurd (omega arith) }
-
   module _ (v : ℕ) (cones : List (List ℕ)) where
     -- variable v begins: only the rows of the places that are told for it have limits
     pub going_in : (left : ℕ) → Limiting (λ q. lim q v) (length rows) left → Going n rows x lim (Through v) cones → Going n rows x lim (Beside v left) cones

@@ -5,8 +5,7 @@ use Rattle.std.proofs.lemmas.List.{get_or-replicate, get_or_past, get_or-set_sam
 use Rattle.std.proofs.lemmas.Bool.{cases_eq, cases_lt, eq-eqb, ne_eqb, or_left, or_right, cond-true, cond-false, false≢true}
 use Rattle.cones.specs.Tables.{limit_in, limits_at, limits_of}
 use Rattle.places.specs.Places.{among}
-use Rattle.places.specs.declared.Places.{Places}
-use Rattle.search.specs.Columns.{Wide, Limiting, Placed}
+use Rattle.search.specs.Columns.{Wide, Limiting}
 
 pub no_limit : {X : Type 0} (d : ℕ) → ◌≡◌ {A = Option ℕ} None (Some d) → X
 no_limit d e = absurd (let z : ◌≡◌ {A = ℕ} 0 1 = cc in omega arith)
@@ -110,17 +109,3 @@ module _ (f : ℕ → Option ℕ) (k bits : ℕ) (l : Limiting f k bits) where
 
   pub limiting_end : (n : ℕ) → n ≤ k → Limiting f n bits
   limiting_end n most q d below is = l q d (omega arith) is
-
--- a column is written with the places of its limits
-pub placed_more : (f : ℕ → Option ℕ) (x k : ℕ) (old new : List (List (Option ℕ))) (places : List Places) (filled : Places) → 1 ≤ x → x ≤ 8 → length places ≡ 8 →
-    Wide old → (Wide old → Wide new × ((q v : ℕ) → q < k → limits_of new q v ≡ cond (eqb v x) (f q) (limits_of old q v))) →
-    Limiting f k filled.bits → Placed k old places → Placed k new (set places (x - 1) filled)
-placed_more f x k old new places filled low high long wide written limiting placed v some most q d below is =
-    let now : limits_of new q v ≡ cond (eqb v x) (f q) (limits_of old q v) = (written wide).1 q v below in
-    elim (cases_eq v x) [
-      | inl e ↦ ap (λ (i : ℕ). among (get_or (set places (x - 1) filled) i (record { bits = 0 })).bits q) (let same : v - 1 ≡ x - 1 = omega arith in same)
-          ∙ ap (λ (p : Places). among p.bits q) (get_or-set_same places (x - 1) filled (record { bits = 0 }) (omega (arith, long)))
-          ∙ limiting q d below (sym (cond-true (eqb v x) (f q) (limits_of old q v) (eq-eqb v x e)) ∙ sym now ∙ is)
-      | inr o ↦ ap (λ (p : Places). among p.bits q) (get_or-set_other places (x - 1) (v - 1) filled (record { bits = 0 }) (λ e. o (omega arith)))
-          ∙ placed v some most q d below (sym (cond-false (eqb v x) (f q) (limits_of old q v) (ne_eqb v x o)) ∙ sym now ∙ is)
-    ]
