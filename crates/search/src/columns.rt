@@ -20,10 +20,10 @@ use places::Places;
 // as limits are kept. Places, not references, and no list: a rule of the project, as the search has no heap. A byte holds a place, which is below 64.
 pub(crate) type Cones = [[u8; 8]; 64];
 
-// No place: past those of all rows.
+// Past the places of all rows: no cone has been told yet.
 pub(crate) const NOWHERE: u8 = 64;
 
-// The limits of so many rows, of eight variables each.
+// The limits of so many rows in eight variables, and which rows have one: few of them do at first, and only these have products to look for.
 #[derive(Drop)]
 pub(crate) struct Table {
     pub(crate) limits: [Limits; 64],
@@ -89,7 +89,7 @@ fn fill_column_by_bars<E: Element, D: Division>(
     fill_column(table, division, &bars.ranked(order), x)
 }
 
-// The same, for the rows under an ordering; `above` is how many variables it lists before x.
+// Writes them, and their places, for the rows under an ordering; `above` is how many variables it lists before x.
 fn write_column<E: Element, D: Division>(
     table: &mut Table,
     kept: &mut Option<Kept<E>>,
@@ -127,7 +127,7 @@ fn clear_limits(table: &mut [Limits; 64], count: usize, x: u8)
     }
 }
 
-// The same, at each row.
+// The same in a table, at all of its rows.
 pub(crate) fn clear_column(table: &mut Table, x: u8)
     requires { (1 ≤ x) × (x ≤ 8) }
     ensures column { Written (λ q. None) x table.old.count table.old.limits table.new.limits }
@@ -212,9 +212,9 @@ fn cone_still<E: Element>(
     cone_sought(limited, kept, product, guess)
 }
 
-// Whether each product lies in a cone, now that variable x has limits: the rows that have limits are told for each variable. The table of cones tells
-// a cone of each product by the limits but for those of x, and afterwards by all limits, if there is one. Where a product has left a cone,
-// it often lies in the one that held it before that; the table of former cones may have any content.
+// Whether each product lies in a cone, now that variable x has limits. The places are those of the rows that have a limit, for each variable.
+// The table of cones tells a cone of each product by the limits but for those of x, and afterwards by all limits, if there is one.
+// Where a product has left a cone, it often lies in the one that held it before that; the table of former cones may have any content.
 fn relocate<E: Element>(
     limited: &Limited<E>,
     places: &[Places; 8],
