@@ -103,12 +103,14 @@ impl Prefix {
     pub(crate) fn completed(&self) -> [u8; 8]
         ensures { result ≡ completion self.now.n (take self.now.len self.now.entries) }
     {
-        let mut whole = *self;
-        let mut from = 0;
-        while let Some(x) = self.next_unused(from) {
-            whole.push(x);
-            from = x;
+        let mut order = self.entries;
+        let mut count = self.len;
+        for x in 1..=self.n {
+            if !self.has(x) {
+                order[count] = x;
+                count += 1;
+            }
         }
-        whole.entries
+        order
     }
 }

@@ -1,28 +1,33 @@
-use Rattle.std.proofs.Common.{refl, ◌∙◌, ap, length, arith}
-use Rattle.search.specs.Prefixes.{padded}
-use Rattle.search.proofs.Held.{open_entries, held, taken_more}
-use Rattle.search.proofs.Filling.{fills_next, fills_more, fills_end}
+use Rattle.std.proofs.Common.{◌≡◌, ◌+◌, ◌-◌, ◌≤◌, sym, ◌∙◌, take, arith}
+use Rattle.search.proofs.Held.{open_entries, held}
+use Rattle.search.proofs.Filling.{Filled, filled_start, filled_room, filled_with, filled_past, filled_end}
 use Rattle.search.proofs.prefixes.Prefix.completed.Goals as goal
+use Rattle.search.proofs.prefixes.Prefix.completed.Goals.{then-not-has, else-not-has}
 
 pub loop-x-init : goal.loop-x-init
-loop-x-init c = (refl, record { left = refl })
+loop-x-init c = let p = c.args.self.now in filled_start p.n p.len p.entries (held p)
 
-pub push-requires : goal.push-requires
-push-requires c =
-    let (range, unused) = fills_next c.loop-x.invariant.1 c.in-Some.x c.in-Some.ensures (open_entries c.args.self.now.proper) in
-    record { variable = rw c.loop-x.invariant.0 range; unused = unused }
+pub bounds-order-count : goal.bounds-order-count
+bounds-order-count c =
+    let low : 1 ≤ c.loop-x.x = omega arith in
+    filled_room c.loop-x.x c.loop-x.invariant low (omega (arith, c.loop-x-test.true)) (open_entries c.args.self.now.proper) (sym c.has.ensures ∙ c.if-not-has.true)
 
 pub loop-x-preserved : goal.loop-x-preserved
 loop-x-preserved c =
-    let (range, unused) = fills_next c.loop-x.invariant.1 c.in-Some.x c.in-Some.ensures (open_entries c.args.self.now.proper) in
-    let pushed = c.push.ensures in (
-      pushed.same ∙ c.loop-x.invariant.0,
-      rw (pushed.entries, pushed.len, taken_more (held c.loop-x.whole) c.in-Some.x (rw c.loop-x.invariant.0 range) unused)
-          (fills_more c.loop-x.invariant.1 c.in-Some.x c.in-Some.ensures),
-    )
+    let x = c.loop-x.x in
+    let low : 1 ≤ x = omega arith in
+    let same : x + 1 - 1 ≡ x = omega arith in
+    rw same (elim c.if-not-has.branch [
+      | then-not-has w ↦ rw (w.order-is, w.count-is) (filled_with x c.loop-x.invariant low (omega (arith, c.loop-x-test.true)) (open_entries c.args.self.now.proper) (sym c.has.ensures ∙ w.if-not-has.true))
+      | else-not-has w ↦ rw (w.order-is, w.count-is) (filled_past x c.loop-x.invariant low (omega (arith, c.loop-x-test.true)) (sym c.has.ensures ∙ w.if-not-has.false))
+    ])
 
-pub loop-x-smaller : goal.loop-x-smaller
-loop-x-smaller c = omega (arith, ap length c.in-Some.ensures)
-
-pub returns : goal.returns
-returns c = (held c.loop-x.whole).zeros ∙ ap padded (fills_end c.loop-x.invariant.1 c.in_default.ensures)
+pub returns-after-not-has : goal.returns-after-not-has
+returns-after-not-has c =
+    let p = c.args.self.now in
+    let x = c.loop-x.x in
+    let low : 1 ≤ x = omega arith in
+    let filled : Filled p.n (take p.len p.entries) x c.if-not-has.count c.if-not-has.order = elim c.if-not-has.branch [
+      | then-not-has w ↦ rw (w.order-is, w.count-is) (filled_with x c.loop-x.invariant low (omega (arith, c.loop-x-test.true)) (open_entries p.proper) (sym c.has.ensures ∙ w.if-not-has.true))
+      | else-not-has w ↦ rw (w.order-is, w.count-is) (filled_past x c.loop-x.invariant low (omega (arith, c.loop-x-test.true)) (sym c.has.ensures ∙ w.if-not-has.false))
+    ] in filled_end p.n (take p.len p.entries) x c.if-not-has.count c.if-not-has.order (omega arith) filled
