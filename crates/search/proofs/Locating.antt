@@ -1,7 +1,7 @@
 -- A table of cones while limits come and go. Assumes nothing.
 use Rattle.std.proofs.Common.{◌≡◌, ℕ, ◌+◌, ◌-◌, ◌<◌, ◌≤◌, true, false, not, ◌&&◌, eqb, ◌⊎◌, List, [], length, get_or, set, replicate, Some, None, Option, sym, refl, ap, ◌∙◌, inl, inr, arith}
 use Rattle.std.proofs.lemmas.List.{get_or-set_same, get_or-set_other, get_or_default, length-set}
-use Rattle.std.proofs.lemmas.Bool.{cases_eq, eq-eqb, ne_eqb, cond-true, cond-false, false≢true}
+use Rattle.std.proofs.lemmas.Bool.{cases_eq, cases_lt, eq-eqb, ne_eqb, cond-true, cond-false, false≢true}
 use Rattle.elements.specs.Element.{Shown, exponent, times, Variable}
 use Rattle.orderings.specs.Rows.{row}
 use Rattle.places.specs.Places.{among}
@@ -93,22 +93,29 @@ pub record Going (n : ℕ) (rows : List Shown) (x : ℕ) (lim : Limits) (done : 
   pub others : Located n rows (without x lim) cones
   pub found : (q w d : ℕ) → done q w → q < length rows → 1 ≤ w → w ≤ n → lim q w ≡ Some d → InCone n rows lim (cone_at cones q w) (times (row rows q) w d)
 
--- the variables below v are done
-abbrev pub Through : ℕ → ℕ → ℕ → Type 0
-Through v q w = w < v
+-- the first k steps are done: x is the first, and each other variable has the step of its number
+abbrev pub Through : ℕ → ℕ → ℕ → ℕ → Type 0
+Through x k q w = ((w ≡ x) × (1 ≤ k)) ⊎ (w < k)
 
--- and variable v but at the places that are left
-abbrev pub Beside : ℕ → ℕ → ℕ → ℕ → Type 0
-Beside v left q w = (w < v) ⊎ ((w ≡ v) × (among left q ≡ false))
+-- v is the variable of step k
+pub record InTurn (n x k v : ℕ) : Type 0 where
+  pub first : k ≡ 0 → v ≡ x
+  pub later : 1 ≤ k → v ≡ k
+  pub low : 1 ≤ v
+  pub high : v ≤ n
+
+-- and variable v is done but at the places that are left
+abbrev pub Beside : (ℕ → ℕ → Type 0) → ℕ → ℕ → ℕ → ℕ → Type 0
+Beside done v left q w = done q w ⊎ ((w ≡ v) × (among left q ≡ false))
 
 -- place p is taken out of those
 abbrev pub TakenOut : ℕ → ℕ → ℕ → Type 0
 TakenOut left p rest = (q : ℕ) → among rest q ≡ (not (eqb q p) && among left q)
 
 module _ (n : ℕ) (rows : List Shown) (x : ℕ) (lim : Limits) where
-  module _ (v : ℕ) (cones : List (List ℕ)) where
+  module _ (done : ℕ → ℕ → Type 0) (v : ℕ) (cones : List (List ℕ)) where
     -- variable v begins: only the rows of the places that are told for it have limits
-    pub going_in : (left : ℕ) → Limiting (λ q. lim q v) (length rows) left → Going n rows x lim (Through v) cones → Going n rows x lim (Beside v left) cones
+    pub going_in : (left : ℕ) → Limiting (λ q. lim q v) (length rows) left → Going n rows x lim done cones → Going n rows x lim (Beside done v left) cones
     going_in left limiting g = record {
       long = g.long;
       others = g.others;
@@ -118,21 +125,13 @@ module _ (n : ℕ) (rows : List Shown) (x : ℕ) (lim : Limits) where
       ];
     }
 
-    module _ (left : ℕ) (g : Going n rows x lim (Beside v left) cones) where
-      -- no place is left
-      pub going_out : ((p : ℕ) → among left p ≡ false) → Going n rows x lim (Through (v + 1)) cones
-      going_out none = record {
-        long = g.long;
-        others = g.others;
-        found = λ q w d h hq low high e. g.found q w d (elim (cases_eq w v) [ inl z ↦ inr (z, none q) | inr o ↦ inl (omega arith) ]) hq low high e;
-      }
-
+    module _ (left : ℕ) (g : Going n rows x lim (Beside done v left) cones) where
       module _ (p rest : ℕ) (taken : TakenOut left p rest) where
         other_left : (q : ℕ) → (q ≡ p → ⊥) → among rest q ≡ false → among left q ≡ false
         other_left q o f = rw (taken q, ne_eqb q p o) at f
 
         -- no limit at the place that is taken out
-        pub going_past : (p < length rows → lim p v ≡ None) → Going n rows x lim (Beside v rest) cones
+        pub going_past : (p < length rows → lim p v ≡ None) → Going n rows x lim (Beside done v rest) cones
         going_past none = record {
           long = g.long;
           others = g.others;
@@ -147,7 +146,7 @@ module _ (n : ℕ) (rows : List Shown) (x : ℕ) (lim : Limits) where
 
         -- a cone is found there
         going_on : (d s : ℕ) → p < length cones → 1 ≤ v → v ≤ 8 → lim p v ≡ Some d → InCone n rows lim s (times (row rows p) v d) →
-            Going n rows x lim (Beside v rest) (set cones p (set (get_or cones p []) (v - 1) s))
+            Going n rows x lim (Beside done v rest) (set cones p (set (get_or cones p []) (v - 1) s))
         unfolding written
         going_on d s inside low high is cone = record {
           long = length-set cones p (set (get_or cones p []) (v - 1) s) ∙ g.long;
@@ -193,7 +192,7 @@ module _ (n : ℕ) (rows : List Shown) (x : ℕ) (lim : Limits) where
             rw (reads, get_or_default cones p [] (replicate 8 0) inside, ← here) (g.others.cone p v d l low high (without_other n rows x lim p v other ∙ is))
 
         -- a cone is found, if one is wherever that is so
-        pub cone_found : (s rest : ℕ) → TakenOut left p rest → (Told → InCone n rows lim s (times u v d)) → Going n rows x lim (Beside v rest) (set cones p (set (get_or cones p []) (v - 1) s))
+        pub cone_found : (s rest : ℕ) → TakenOut left p rest → (Told → InCone n rows lim s (times u v d)) → Going n rows x lim (Beside done v rest) (set cones p (set (get_or cones p []) (v - 1) s))
         cone_found s rest taken found = going_on p rest taken d s (omega (arith, g.long)) low (omega arith) is (rw here (found holds))
 
         -- or none holds the product
@@ -204,10 +203,33 @@ module _ (n : ℕ) (rows : List Shown) (x : ℕ) (lim : Limits) where
           all = λ t. absurd (false≢true t);
         }
 
-    -- the variables are through
-    pub going_done : n < v → Going n rows x lim (Through v) cones → Relocated n rows x lim true cones
-    going_done through g = record {
-      told = (λ _ q w d short. short.outside (cone_at cones q w) (g.found q w d (omega (arith, short.high)) short.place short.low short.high short.limit), λ _. refl);
+  module _ (k : ℕ) (cones : List (List ℕ)) where
+    -- no place is left
+    pub going_out : (v left : ℕ) → Going n rows x lim (Beside (Through x k) v left) cones → InTurn n x k v → ((p : ℕ) → among left p ≡ false) → Going n rows x lim (Through x (k + 1)) cones
+    going_out v left g turn none = record {
+      long = g.long;
       others = g.others;
-      all = λ _. record { wide = g.others.wide; cone = λ q w d hq low high e. g.found q w d (omega arith) hq low high e };
+      found = λ q w d h hq low high e. g.found q w d (elim h [
+        | inl a ↦ elim (cases_lt 0 k) [ inl l ↦ inl (inl (a.0, l)) | inr z ↦ inr (a.0 ∙ sym (turn.first (omega arith)), none q) ]
+        | inr b ↦ elim (cases_eq w k) [ inl z ↦ inr (z ∙ sym (turn.later (omega arith)), none q) | inr o ↦ inl (inr (omega arith)) ]
+      ]) hq low high e;
+    }
+
+    -- the step of x is left out
+    pub going_by : k ≡ x → 1 ≤ x → Going n rows x lim (Through x k) cones → Going n rows x lim (Through x (k + 1)) cones
+    going_by here some g = record {
+      long = g.long;
+      others = g.others;
+      found = λ q w d h hq low high e. g.found q w d (elim h [
+        | inl a ↦ inl (a.0, omega arith)
+        | inr b ↦ elim (cases_eq w k) [ inl z ↦ inl (z ∙ here, omega arith) | inr o ↦ inr (omega arith) ]
+      ]) hq low high e;
+    }
+
+    -- all steps are done
+    pub going_done : n < k → Going n rows x lim (Through x k) cones → Relocated n rows x lim true cones
+    going_done through g = record {
+      told = (λ _ q w d short. short.outside (cone_at cones q w) (g.found q w d (inr (omega (arith, short.high))) short.place short.low short.high short.limit), λ _. refl);
+      others = g.others;
+      all = λ _. record { wide = g.others.wide; cone = λ q w d hq low high e. g.found q w d (inr (omega arith)) hq low high e };
     }

@@ -225,12 +225,18 @@ fn relocate<E: Element>(
 ) -> bool
     requires rows { length limited.now.rows.now ≤ 64 }
     requires variables { limited.now.n ≤ 8 }
+    requires x { (1 ≤ x) × (x ≤ limited.now.n) }
     requires places { Placed (length limited.now.rows.now) limited.now.limits.now places.now }
     requires kept { IfSome kept.old (λ k. k.bars.rows.now ≡ limited.now.rows.now) }
     ensures cones { Located limited.now.n (map E.Element.shown limited.now.rows.now) (without x (limits_of limited.now.limits.now)) cones.old → Relocated limited.now.n (map E.Element.shown limited.now.rows.now) x (limits_of limited.now.limits.now) result cones.new }
     ensures kept { IfSome kept.new (λ k. k.bars.rows.now ≡ limited.now.rows.now) }
 {
-    for variable in 1..=limited.n {
+    // x is the first, in step 0: where some product lies in no cone, one with x mostly does not
+    for step in 0..=limited.n {
+        if step == x {
+            continue;
+        }
+        let variable = if step == 0 { x } else { step };
         let mut left = places[variable as usize - 1];
         while let Some(place) = left.take_first() {
             if let Some(product) = product_of(limited, place, variable) {

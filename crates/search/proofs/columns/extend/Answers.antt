@@ -18,3 +18,9 @@ returns-clause-extended g c = λ s t l.
     _ _ c.last-x.result c.completed-order.result c.args.table.now.limits c.write_column.new.table.limits c.args.cones.now c.relocate.new.cones _ c.relocate.result
     (rw c.last-x.ensures at (held_last (held p) (p.len - 1) (omega (arith, c.requires.some)))) (held_prefix (held p) c.requires.some)
     c.completed-order.ensures (length-map c.args.rows.now shown) t l c.write_column.ensures.column c.relocate.ensures.cones
+
+pub relocate-requires-clause-x : goal.relocate-requires-clause-x
+relocate-requires-clause-x g c =
+    let p = c.args.prefix.now in
+    let (low, high) = last_range (held p) (p.len - 1) (omega (arith, c.requires.some)) in
+    (rw c.last-x.ensures at low, rw c.last-x.ensures at high)
