@@ -1,6 +1,6 @@
 -- One place put into a set, and taken out. Assumes nothing.
-use Rattle.std.proofs.Common.{◌≡◌, ℕ, ◌+◌, ◌-◌, ◌*◌, ◌%◌, ◌^◌, ◌<◌, min, true, false, not, ◌&&◌, ◌||◌, eqb, bit_and, bit_or, w64, ap, refl, ◌∙◌, inl, inr, arith}
-use Rattle.std.proofs.lemmas.Bool.{cases_eq, cases_lt, eq-eqb, eqb-true, ne_eqb}
+use Rattle.std.proofs.Common.{◌≡◌, ℕ, ◌+◌, ◌-◌, ◌*◌, ◌%◌, ◌^◌, ◌<◌, min, true, false, not, ◌&&◌, ◌||◌, eqb, bit_and, bit_or, w64, Decides, ap, sym, refl, ◌∙◌, inl, inr, arith}
+use Rattle.std.proofs.lemmas.Bool.{cases_eq, cases_lt, eq-eqb, eqb-true, ne_eqb, false≢true}
 use Rattle.std.proofs.lemmas.Nat.{and_comm, and-not}
 use Rattle.std.proofs.lemmas.Nat.Bits.{bit_at_and, and_pow, bit_at-trailing_zeros, bit_at_set_same, bit_at_set_other, bit_at_clear_same, bit_at_clear_other, bit_at_above}
 use Rattle.std.proofs.Math.Pow.{pow_pos, pow-lt}
@@ -46,3 +46,16 @@ module _ (n : ℕ) (some : 0 < n) (fits : n < 18446744073709551616) where
   first_in =
       let (below, here, before) = bit_at-trailing_zeros w64 n some fits in
       (below, rw here refl, λ p l. rw (before p l) refl)
+
+pub zero_below : (p : ℕ) → among 0 p ≡ false
+zero_below p = rw (bit_at_above 0 0 p (omega arith) (omega arith)) refl
+
+-- there is no place in a number exactly where it is 0
+pub none_in : (n : ℕ) → n < 18446744073709551616 → Decides (eqb n 0) ((p : ℕ) → among n p ≡ false)
+none_in n fits = elim (cases_eq n 0) [
+  | inl e ↦ (λ t p. rw e (zero_below p), λ h. eq-eqb n 0 e)
+  | inr d ↦ (
+    λ t. absurd (d (eqb-true n 0 t)),
+    λ h. (let (below, here, before) = first_in n (omega (arith, d)) fits in absurd (false≢true (sym (h (trailing_zeros w64 n)) ∙ here))),
+  )
+]

@@ -1,7 +1,7 @@
 // Sets of places of a sheet, which has at most 64.
 #![tactic(auto)]
 
-ghost use Rattle.std.specs.Prelude.{◌≡◌, ℕ, ◌<◌, ◌≤◌, true, false, not, ◌&&◌, ◌||◌, MatchOption, IfSome, ◌==◌};
+ghost use Rattle.std.specs.Prelude.{◌≡◌, ℕ, ◌<◌, ◌≤◌, true, false, not, ◌&&◌, ◌||◌, MatchOption, IfSome, Decides, ◌==◌};
 ghost use Rattle.places.specs.Places.{among};
 
 // A set of places below 64, with a bit for each.
@@ -20,7 +20,7 @@ impl Places {
 
     // Whether no place is in it.
     pub fn is_empty(&self) -> bool
-        ensures { result ≡ (self.now.bits == 0) }
+        ensures { Decides result ((p : ℕ) → among self.now.bits p ≡ false) }
     {
         self.bits == 0
     }

@@ -6,15 +6,14 @@ use Rattle.std.proofs.lemmas.List.FromFn.{length-range_with_len, get_or-range_wi
 use Rattle.std.proofs.lemmas.List.{get_or-set_same, get_or-set_other, get_or-replicate, get_or_past}
 use Rattle.std.proofs.lemmas.Bool.{cases_eq, cases_lt, eq-eqb, ne_eqb, cond-false, false≢true}
 use Rattle.std.proofs.lemmas.Bool.Decides.{Decides-like}
-use Rattle.std.proofs.lemmas.Nat.Bits.{bit_at-lt, bit_at-zero, same_from_bits}
-use Rattle.std.specs.Int.{bit_at}
 use Rattle.elements.specs.Element.{Shown, exponent, Variable, Divides, power, times}
 use Rattle.elements.proofs.Terms.{product_family}
 use Rattle.orderings.specs.Rows.{row}
 use Rattle.places.specs.Places.{among}
 use Rattle.places.specs.declared.Places.{Places}
+use Rattle.places.proofs.Bits.{zero_below}
 use Rattle.cones.specs.Cones.{Limits, InCone}
-use Rattle.search.specs.Divisors.{DividesBut, bits_at, Known}
+use Rattle.search.specs.Divisors.{DividesBut, set_at, Known}
 use Rattle.search.specs.Liveness.{raised}
 use Rattle.search.proofs.Testing.{times_at}
 
@@ -62,25 +61,12 @@ module _ (v : ℕ) (rows : List Shown) (u : Shown) where
     pub gathered_end : (count : ℕ) → count ≤ p → (s : ℕ) → s < count → Decides (among bits s) (DividesBut v (row rows s) u)
     gathered_end count all s l = Decides-like (among bits s) (λ h. h.1) (λ d. (omega (arith, all, l), d)) (g s)
 
--- a set without a place has no bit
-pub no_bits : (bits : ℕ) → ((p : ℕ) → among bits p ≡ false) → bits ≡ 0
-no_bits bits none = same_from_bits bits 0 (λ i. bit i (none i) ∙ sym (bit_at-zero i))
-  where
-    bit : (i : ℕ) → among bits i ≡ false → bit_at bits i ≡ 0
-    bit i e = elim (cases_eq (bit_at bits i) 1) [
-      | inl one ↦ absurd (false≢true (sym e ∙ eq-eqb (bit_at bits i) 1 one))
-      | inr other ↦ omega (arith, other, bit_at-lt bits i)
-    ]
-
 -- nothing is known at the start
-pub known_start : (rows : List Shown) → (none : Places) → none.bits ≡ 0 → Known rows (replicate 512 none)
-known_start rows none zero q v s hq low high hs some = absurd (some empty)
-  where
-    empty : bits_at (replicate 512 none) q v ≡ 0
-    empty = elim (cases_lt (q * 8 + v - 1) 512) [
-      | inl l ↦ ap (λ (x : Places). x.bits) (get_or-replicate 512 (q * 8 + v - 1) none _ l) ∙ zero
-      | inr l ↦ ap (λ (x : Places). x.bits) (get_or_past (replicate 512 none) (q * 8 + v - 1) _ l)
-    ]
+pub known_start : (rows : List Shown) → (none : Places) → ((p : ℕ) → among none.bits p ≡ false) → Known rows (replicate 512 none)
+known_start rows none empty q v s hq low high hs some = absurd (some (λ p. elim (cases_lt (q * 8 + v - 1) 512) [
+  | inl l ↦ ap (λ (x : Places). among x.bits p) (get_or-replicate 512 (q * 8 + v - 1) none (record { bits = 0 }) l) ∙ empty p
+  | inr l ↦ ap (λ (x : Places). among x.bits p) (get_or_past (replicate 512 none) (q * 8 + v - 1) (record { bits = 0 }) l) ∙ zero_below p
+]))
 
 -- what is found for a row and a variable is kept
 pub known_more : (rows : List Shown) (table : List Places) → Known rows table → (p x : ℕ) (found : Places) → p * 8 + x - 1 < length table → 1 ≤ x → x ≤ 8 →
@@ -88,9 +74,9 @@ pub known_more : (rows : List Shown) (table : List Places) → Known rows table 
 known_more rows table known p x found inside least most here q v s hq low high hs some = elim (cases_eq (q * 8 + v - 1) (p * 8 + x - 1)) [
   | inl e ↦ (let a : q ≡ p = omega (arith, e, low, high, least, most) in
       let b : v ≡ x = omega (arith, e, a, low, least) in
-      rw (a, b, ap (λ (y : Places). y.bits) (get_or-set_same table (p * 8 + x - 1) found (record { bits = 0 }) inside)) (here s hs))
-  | inr o ↦ (let same : bits_at (set table (p * 8 + x - 1) found) q v ≡ bits_at table q v = ap (λ (y : Places). y.bits) (get_or-set_other table (p * 8 + x - 1) (q * 8 + v - 1) found (record { bits = 0 }) o) in
-      rw same (known q v s hq low high hs (λ z. some (same ∙ z))))
+      rw (a, b, get_or-set_same table (p * 8 + x - 1) found (record { bits = 0 }) inside) (here s hs))
+  | inr o ↦ (let same : set_at (set table (p * 8 + x - 1) found) q v ≡ set_at table q v = get_or-set_other table (p * 8 + x - 1) (q * 8 + v - 1) found (record { bits = 0 }) o in
+      rw same (known q v s hq low high hs (λ z. some (λ y. ap (λ (x : Places). among x.bits y) same ∙ z y))))
 ]
 
 -- who divides a product with a power of v divides the factor but for v

@@ -1,5 +1,5 @@
 -- Which rows can divide the products of a row with the powers of a variable. Assumes nothing.
-use Rattle.std.specs.Prelude.{◌≡◌, ℕ, ◌+◌, ◌-◌, ◌*◌, ◌<◌, ◌≤◌, ◌≢◌, Decides, List, length, slice_index_or}
+use Rattle.std.specs.Prelude.{◌≡◌, ℕ, ◌+◌, ◌-◌, ◌*◌, ◌<◌, ◌≤◌, ◌≢◌, false, Decides, List, length, slice_index_or}
 use Rattle.elements.specs.Element.{Shown, exponent, Variable}
 use Rattle.orderings.specs.Rows.{row}
 use Rattle.places.specs.Places.{among}
@@ -10,11 +10,11 @@ pub record DividesBut (v : ℕ) (u w : Shown) : Type 0 where
   pub family : u.family ≡ w.family
   pub smaller : (y : ℕ) → Variable y → y ≢ v → exponent u y ≤ exponent w y
 
--- the bits of the places that a table has for variable v, which counts from 1, at the row of place q: eight for each row
-abbrev pub bits_at : List Places → ℕ → ℕ → ℕ
-bits_at table q v = (slice_index_or table (q * 8 + v - 1) (record { bits = 0 })).bits
+-- the places that a table has for variable v, which counts from 1, at the row of place q: eight sets for each row
+abbrev pub set_at : List Places → ℕ → ℕ → Places
+set_at table q v = slice_index_or table (q * 8 + v - 1) (record { bits = 0 })
 
 -- where a table has any place for a row and a variable, it has those of the rows that divide this row but for that variable
 abbrev pub Known : List Shown → List Places → Type 0
-Known rows table = (q v s : ℕ) → q < length rows → 1 ≤ v → v ≤ 8 → s < length rows → bits_at table q v ≢ 0 →
-    Decides (among (bits_at table q v) s) (DividesBut v (row rows s) (row rows q))
+Known rows table = (q v s : ℕ) → q < length rows → 1 ≤ v → v ≤ 8 → s < length rows → (((p : ℕ) → among (set_at table q v).bits p ≡ false) → ⊥) →
+    Decides (among (set_at table q v).bits s) (DividesBut v (row rows s) (row rows q))

@@ -1,7 +1,8 @@
-use Rattle.std.proofs.Common.{rules, tests, ◌<◌, w64, sym, ◌∙◌, inl, inr, arith}
-use Rattle.std.proofs.lemmas.Bool.{cases_eq, eq-eqb, false≢true}
+use Rattle.std.proofs.Common.{rules, tests, ◌<◌, w64, inl, inr, arith}
+use Rattle.std.proofs.lemmas.Bool.{cases_eq}
+use Rattle.std.proofs.lemmas.Bool.Decides.{not_from_Decides}
 use Rattle.std.specs.Int.{trailing_zeros}
-use Rattle.places.proofs.Bits.{first_in, taken_out, fewer}
+use Rattle.places.proofs.Bits.{zero_below, first_in, taken_out, fewer}
 use Rattle.places.proofs.Places.take_first.Goals as goal
 
 fits : (c : goal.After-self-1) → c.args.self.now.bits < 18446744073709551616
@@ -9,7 +10,7 @@ fits c = search (rules, tests)
 
 some : (c : goal.After-self-1) → 0 < c.args.self.now.bits
 some c = elim (cases_eq c.args.self.now.bits 0) [
-  | inl e ↦ absurd (false≢true (sym c.if-is_empty.false ∙ c.is_empty.ensures ∙ eq-eqb c.args.self.now.bits 0 e))
+  | inl e ↦ absurd (not_from_Decides _ c.is_empty.ensures c.if-is_empty.false (λ p. rw e (zero_below p)))
   | inr d ↦ omega (arith, d)
 ]
 
