@@ -1,7 +1,8 @@
 -- The gap as a function is the gap in words. Assumes nothing.
-use Rattle.std.proofs.Common.{◌≡◌, ℕ, ◌+◌, ◌-◌, ◌<◌, Bool, true, false, cond, ltb, List, map, length, Some, None, Option, Decides, sym, refl, ap, ◌∙◌, subst, arith}
+use Rattle.std.proofs.Common.{◌≡◌, ℕ, ◌+◌, ◌-◌, ◌<◌, Bool, true, false, not, cond, ltb, List, map, length, Some, None, Option, Decides, sym, refl, ap, ◌∙◌, subst, arith}
 use Rattle.std.proofs.lemmas.List.{length-map}
-use Rattle.std.proofs.lemmas.Bool.{lt-ltb, cond-true}
+use Rattle.std.specs.Option.{is_some}
+use Rattle.std.proofs.lemmas.Bool.{lt-ltb, cond-true, false≢true}
 use Rattle.std.proofs.lemmas.Bool.Decides.{Decides-like}
 use Rattle.elements.specs.Element.{Shown, blank}
 use Rattle.orderings.specs.Rows.{row}
@@ -45,13 +46,24 @@ gap_is rows order p v l =
     (sym (cond-true (ltb p (length rows)) (least (map (rise order v (row rows p)) rows)) None (lt-ltb p (length rows) l)))
 
 -- there is no gap exactly at a star
+none_at_star : (rows : List Shown) (order : List ℕ) (u : Shown) (v : ℕ) (o : Option ℕ) → IsGap rows order u v o → Star rows order u v → o ≡ None
+none_at_star rows order u v None g star = refl
+none_at_star rows order u v (Some m) ((q, h, rises, e), least) star = absurd (star q h rises)
+
 pub star_has_no_gap : (rows : List Shown) (order : List ℕ) (p v : ℕ) (r : Bool) → p < length rows → Decides r (Star rows order (row rows p) v) → Decides r (gap rows order p v ≡ None)
 star_has_no_gap rows order p v r l d =
-    Decides-like r (none (gap rows order p v) (gap_is rows order p v l)) (λ e. subst (IsGap rows order (row rows p) v) e (gap_is rows order p v l)) d
-  where
-    none : (o : Option ℕ) → IsGap rows order (row rows p) v o → Star rows order (row rows p) v → o ≡ None
-    none None g star = refl
-    none (Some m) ((q, h, rises, e), least) star = absurd (star q h rises)
+    Decides-like r (none_at_star rows order (row rows p) v (gap rows order p v) (gap_is rows order p v l)) (λ e. subst (IsGap rows order (row rows p) v) e (gap_is rows order p v l)) d
+
+pub star_by_gap : (rows : List Shown) (order : List ℕ) (p v : ℕ) (r : Bool) → p < length rows → Decides r (gap rows order p v ≡ None) → Decides r (Star rows order (row rows p) v)
+star_by_gap rows order p v r l d =
+    Decides-like r (λ e. subst (IsGap rows order (row rows p) v) e (gap_is rows order p v l)) (none_at_star rows order (row rows p) v (gap rows order p v) (gap_is rows order p v l)) d
+
+-- whether there is a gap
+pub none_told : (o : Option ℕ) (r : Bool) → is_some o ≡ not r → Decides r (o ≡ None)
+none_told None true e = (λ t. refl, λ n. refl)
+none_told None false e = absurd (false≢true e)
+none_told (Some m) true e = absurd (false≢true (sym e))
+none_told (Some m) false e = (λ t. absurd (false≢true t), λ n. absurd (false≢true (sym (ap is_some n))))
 
 -- the gap of the rows as code holds them
 module _ {X : Type 0} (shown : X → Shown) (order : List ℕ) (v : ℕ) where

@@ -6,3 +6,6 @@ pub mod Found
 pub mod Count
 pub mod Walks
 pub mod Levels
+pub mod Next
+pub mod Increasing
+pub mod Lines

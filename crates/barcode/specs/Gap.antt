@@ -1,20 +1,24 @@
 -- The gap of a variable at a row. Assumes nothing.
 use Rattle.std.specs.Prelude.{◌≡◌, ℕ, ◌+◌, ◌-◌, ◌<◌, ◌≤◌, min, Bool, cond, ◌&&◌, List, [], ◌∷◌, map, length, take, Some, None, Option, ◌==◌, nat_lt}
 use Rattle.elements.specs.Element.{Shown, exponent}
-use Rattle.orderings.specs.Order.{at}
+use Rattle.orderings.specs.Order.{at, PartAt}
 use Rattle.orderings.specs.Rows.{row}
-use Rattle.barcode.specs.Bars.{position, Rises, agrees}
+use Rattle.barcode.specs.Bars.{position, agrees}
 
 -- the exponent that decides at the position of v
 abbrev pub height : List ℕ → ℕ → Shown → ℕ
 height order v u = exponent u (at order (position order v))
 
+-- m is the gap at position k of a list at u, or there is none: the smallest positive difference there to a row that agrees at every position before it
+abbrev pub IsGapAt : List Shown → List ℕ → ℕ → Shown → Option ℕ → Type 0
+IsGapAt rows order k u None = (q : ℕ) → q < length rows → PartAt order k u (row rows q) → ⊥
+IsGapAt rows order k u (Some m) =
+    ((q : ℕ) × (q < length rows) × PartAt order k u (row rows q) × (exponent u (at order k) + m ≡ exponent (row rows q) (at order k))) ×
+    ((q : ℕ) → q < length rows → PartAt order k u (row rows q) → exponent u (at order k) + m ≤ exponent (row rows q) (at order k))
+
 -- m is the gap of v at u, or there is none: the smallest positive difference in v to a row that agrees in every greater variable
 abbrev pub IsGap : List Shown → List ℕ → Shown → ℕ → Option ℕ → Type 0
-IsGap rows order u v None = (q : ℕ) → q < length rows → Rises order v u (row rows q) → ⊥
-IsGap rows order u v (Some m) =
-    ((q : ℕ) × (q < length rows) × Rises order v u (row rows q) × (height order v u + m ≡ height order v (row rows q))) ×
-    ((q : ℕ) → q < length rows → Rises order v u (row rows q) → height order v u + m ≤ height order v (row rows q))
+IsGap rows order u v = IsGapAt rows order (position order v) u
 
 -- the same as a function: the least rise of all rows
 abbrev pub rises : List ℕ → ℕ → Shown → Shown → Bool

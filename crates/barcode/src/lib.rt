@@ -1,15 +1,19 @@
 // Bars, stars and gaps of the rows of a sheet, of any kind, under an ordering.
 #![tactic(auto)]
 
-ghost use Rattle.std.specs.Prelude.{◌≡◌, ℕ, suc, ◌+◌, ◌<◌, ◌≤◌, true, ◌&&◌, map, List, length, None, IfSome, Decides};
+pub mod lined;
+
+ghost use Rattle.std.specs.Prelude.{◌≡◌, ◌≢◌, ℕ, suc, ◌+◌, ◌<◌, ◌≤◌, true, ◌&&◌, slice_set, map, List, length, None, IfSome, Decides};
+ghost use Rattle.std.specs.Option.{ForSome};
 ghost use Rattle.orderings.specs.Order.{at, IsOrdering, PartAt};
 ghost use Rattle.orderings.specs.Rows.{row as at_place};
 ghost use Rattle.barcode.specs.Bars.{position as position_in, SameBar, LowerBar, Star, bar_number, lower_bar, opens_bar, BarNumberCountsTheDifferentLowerBars};
 ghost use Rattle.barcode.specs.Gap.{rise as rise_of, gap as gap_of, IsGap, lesser as lesser_of};
-ghost use Rattle.barcode.specs.Kept.{SetOver, SetsOver, row_set, over_first, IsRise, IsLeastRise, NoneRises};
+ghost use Rattle.barcode.specs.Kept.{SetOver, SetsOver, row_set, over_first, IsRise, IsLeastRise, NoneRises, Knows, InLine};
 ghost use Rattle.elements.specs.Element.{exponent};
 ghost use Rattle.places.specs.Places.{among};
 
+use crate::lined::*;
 use elements::Element;
 use orderings::comparing::part_at;
 use places::Places;
@@ -147,6 +151,7 @@ fn common_front(a: &[u8], b: &[u8]) -> usize
     ensures left { result ≤ length a.now }
     ensures right { result ≤ length b.now }
     ensures same { (j : ℕ) → j < result → at a.now j ≡ at b.now j }
+    ensures most { result < length a.now → result < length b.now → at a.now result ≢ at b.now result }
 {
     let mut front = 0;
     while front < a.len() && front < b.len() && a[front] == b[front] {
@@ -207,8 +212,11 @@ pub struct Ranked<'a, E: Element> {
     pub order: &'a [u8],
     // the first level is of the families, each further one of a variable more, as far as they are kept
     bars: &'a [Level],
+    // the rows in increasing order, where that is known
+    line: Option<&'a Line>,
     ghost few: { 0 < length bars.now → length rows.now ≤ 64 },
     ghost right: { (k : ℕ) → k < length bars.now → SetsOver (map E.Element.shown rows.now) order.now k (over_first bars.now k) },
+    ghost lined: { ForSome line (λ l. InLine (map E.Element.shown rows.now) order.now l.now) },
 }
 
 // Written out, since neither is derived beside a ghost field.
@@ -221,13 +229,18 @@ impl<E: Element> Clone for Ranked<'_, E> {
 impl<E: Element> Copy for Ranked<'_, E> {}
 
 impl<'a, E: Element> Ranked<'a, E> {
-    // Rows under an ordering, with no bar known beforehand.
+    // Rows under an ordering, with nothing known beforehand.
     pub fn new(rows: &'a [E], order: &'a [u8]) -> Self
         ensures rows { result.rows.now ≡ rows.now }
         ensures order { result.order.now ≡ order.now }
     {
         let bars: &[Level] = &[];
-        Ranked { rows, order, bars }
+        Ranked {
+            rows,
+            order,
+            bars,
+            line: None,
+        }
     }
 }
 
@@ -243,12 +256,16 @@ impl<E: Element> Ranked<'_, E> {
 
     // The gap of a variable at the row of a place: the smallest positive difference to a row that agrees in every greater variable.
     // None where the bar is followed by a star, and at a place without a row.
+    #[inline(always)]
     pub fn gap(&self, place: usize, variable: u8) -> Option<u16>
         ensures value { result ≡ gap_of (map E.Element.shown self.now.rows.now) self.now.order.now place variable }
         ensures smallest { place < length self.now.rows.now → IsGap (map E.Element.shown self.now.rows.now) self.now.order.now (at_place (map E.Element.shown self.now.rows.now) place) variable result }
     {
         let (u, order) = (self.rows.get(place)?, self.order);
         let here = position(order, variable);
+        if let (Some(line), Some(variable)) = (self.line, order.get(here)) {
+            return line.gap(self.rows, order, place, here, *variable);
+        }
         if let (Some(over), Some(variable)) = (self.over_bar(place, here), order.get(here)) {
             return least_rise(self.rows, u, over, *variable);
         }
@@ -259,6 +276,7 @@ impl<E: Element> Ranked<'_, E> {
     }
 
     // Whether no row is above the row of a place in a variable and agrees with it in every greater one: its bar is followed by a star.
+    #[inline(always)]
     pub fn has_star(&self, place: usize, variable: u8) -> bool
         ensures row { place < length self.now.rows.now → Decides result (Star (map E.Element.shown self.now.rows.now) self.now.order.now (at_place (map E.Element.shown self.now.rows.now) place) variable) }
         ensures no_row { length self.now.rows.now ≤ place → result ≡ true }
@@ -269,6 +287,9 @@ impl<E: Element> Ranked<'_, E> {
         };
         let order = self.order;
         let here = position(order, variable);
+        if let (Some(line), Some(variable)) = (self.line, order.get(here)) {
+            return line.gap(self.rows, order, place, here, *variable).is_none();
+        }
         if let (Some(over), Some(variable)) = (self.over_bar(place, here), order.get(here)) {
             return none_rises(self.rows, u, over, *variable);
         }
@@ -348,6 +369,7 @@ impl<'a, E: Element> Bars<'a, E> {
         requires room { self.old.known < 8 }
         ensures rows { self.new.rows.now ≡ self.old.rows.now }
         ensures known { self.new.known ≡ self.old.known + 1 }
+        ensures listed { self.new.listed ≡ slice_set self.old.listed self.old.known variable }
     {
         let known = self.known;
         self.over[known + 1] = split(self.rows, &self.over[known], variable);
@@ -357,7 +379,8 @@ impl<'a, E: Element> Bars<'a, E> {
 
     // Makes the bars of the first variables of an ordering known, of so many as are asked for and at most 8. Those that are known already are kept.
     pub fn learn(&mut self, order: &[u8], most: usize)
-        ensures { self.new.rows.now ≡ self.old.rows.now }
+        ensures rows { self.new.rows.now ≡ self.old.rows.now }
+        ensures known { length self.old.rows.now ≤ 64 → Knows order.now most self.new.listed self.new.known }
     {
         if self.rows.len() > 64 {
             return;
@@ -373,6 +396,7 @@ impl<'a, E: Element> Bars<'a, E> {
     pub fn ranked<'b>(&'b self, order: &'b [u8]) -> Ranked<'b, E>
         ensures rows { result.rows.now ≡ self.now.rows.now }
         ensures order { result.order.now ≡ order.now }
+        ensures bars { length self.now.rows.now ≤ 64 → (k : ℕ) → k ≤ self.now.known → ((j : ℕ) → j < k → (j < length order.now) × (at self.now.listed j ≡ at order.now j)) → k < length result.bars.now }
     {
         if self.rows.len() > 64 {
             return Ranked::new(self.rows, order);
@@ -382,6 +406,7 @@ impl<'a, E: Element> Bars<'a, E> {
             rows: self.rows,
             order,
             bars: &self.over[..=front],
+            line: None,
         }
     }
 }

@@ -53,7 +53,7 @@ pub fn part_at<E: Element>(u: &E, w: &E, order: &[u8]) -> Option<usize>
 }
 
 // How u stands to w by family, and then by the exponents of the listed variables, the first listed first.
-fn standing<E: Element>(u: &E, w: &E, order: &[u8]) -> Comparison
+pub fn standing<E: Element>(u: &E, w: &E, order: &[u8]) -> Comparison
     ensures { StandsAs order.now (E.Element.shown u.now) (E.Element.shown w.now) result }
 {
     let families = u.family().cmp(&w.family());

@@ -1,12 +1,13 @@
-use Rattle.std.proofs.Common.{sym, ◌∙◌}
+use Rattle.std.proofs.Common.{◌≡◌, true, map, sym, ◌∙◌}
 use Rattle.std.proofs.lemmas.Bool.Decides.{same_from_decides}
 use Rattle.std.proofs.lemmas.List.{get_or-map}
 use Rattle.elements.specs.Element.{blank}
+use Rattle.barcode.specs.Bars.{opens_bar}
 use Rattle.barcode.proofs.Tested.{lower_bar_decides}
 use Rattle.barcode.proofs.Ranked.opens_lower_bar.Goals as goal
 
 pub returns-then-opens_bar : goal.returns-then-opens_bar
 returns-then-opens_bar g c =
     let here = get_or-map g.E.Element.shown c.args.self.now.rows.now c.args.place c.index-self-place.result blank c.requires in
-    let opens = sym c.opens_bar.ensures ∙ c.if-opens_bar.true in
+    let opens : opens_bar (map g.E.Element.shown c.args.self.now.rows.now) c.args.self.now.order.now c.args.variable c.args.place c.args.place ≡ true = sym c.opens_bar.ensures ∙ c.if-opens_bar.true in
     rw (opens, here) (same_from_decides _ _ c.over_lower_bar.ensures (lower_bar_decides c.args.self.now.order.now c.args.variable _ _))
