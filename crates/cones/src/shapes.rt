@@ -30,11 +30,14 @@ impl Shape {
         ensures { record { family = result.family; exponents = result.exponents } ≡ times (E.Element.shown element.now) variable power }
     {
         let exponents = element.exponents();
-        let (variable, power) = (usize::from(variable), u32::from(power));
+        let mut raised: [u32; 8] = array::from_fn(|i| u32::from(exponents[i]));
+        if variable >= 1 && variable <= 8 {
+            let index = variable as usize - 1;
+            raised[index] = u32::from(exponents[index]) + u32::from(power);
+        }
         Shape {
             family: element.family(),
-            exponents: array::from_fn(|i| u32::from(exponents[i])
-                + if i + 1 == variable { power } else { 0 }),
+            exponents: raised,
         }
     }
 
@@ -42,11 +45,12 @@ impl Shape {
     pub(crate) fn is_multiple_of<E: Element>(&self, row: &E) -> bool
         ensures { Decides result (Divides (E.Element.shown row.now) (record { family = self.now.family; exponents = self.now.exponents })) }
     {
-        row.family() == self.family
-            && row
-                .exponents()
-                .iter()
-                .zip(self.exponents.iter())
-                .all(|(least, given)| u32::from(*least) <= *given)
+        let least = row.exponents();
+        let mut divides = row.family() == self.family;
+        // no exponent is passed over, which is quicker than a branch for each
+        for i in 0..8 {
+            divides &= u32::from(least[i]) <= self.exponents[i];
+        }
+        divides
     }
 }

@@ -1,12 +1,14 @@
-use Rattle.std.proofs.Common.{ℕ, ◌<◌, ◌≤◌, rules, tests, sym, refl, ◌∙◌, arith}
-use Rattle.std.proofs.lemmas.Iterator.{cases_from_all, YieldsList-from_slice, YieldsList-from_zip}
-use Rattle.elements.proofs.Terms.{divides_by_pairs}
+use Rattle.std.proofs.Common.{sym, refl, ◌∙◌, arith}
+use Rattle.std.proofs.lemmas.Bool.{eqb-true, eq-eqb}
+use Rattle.cones.proofs.Compared.{compared_more, compared_all}
 use Rattle.cones.proofs.shapes.Shape.is_multiple_of.Goals as goal
 
-pub returns-then-family-self : goal.returns-then-family-self
-returns-then-family-self g c =
-    let given = c.args.self.now.exponents in
-    divides_by_pairs _ _ _ given c.exponents.ensures refl c.all.result (omega arith) (omega arith) (sym c.family.ensures ∙ c.if-family-self.true)
-    (cases_from_all c.all.new.self _ _ (λ (p : ℕ × ℕ). p.0 ≤ p.1) (λ p. p.1 < p.0) c.all.ensures.ran
-    (YieldsList-from_zip (YieldsList-from_slice c.exponents.result cc) (YieldsList-from_slice given cc))
-    (λ x q k. search (rules, tests)) (λ x q k. search (rules, tests)))
+pub loop-i-init : goal.loop-i-init
+loop-i-init g c = (λ t. (sym c.family.ensures ∙ eqb-true _ _ t, λ k l. absurd (omega arith)), λ d. eq-eqb _ _ (c.family.ensures ∙ d.0))
+
+pub loop-i-preserved : goal.loop-i-preserved
+loop-i-preserved g c = compared_more _ c.exponents-least.result c.args.self.now.exponents c.loop-i.i c.loop-i.divides c.from.result c.from.ensures c.loop-i.invariant
+
+pub returns : goal.returns
+returns g c =
+    compared_all _ _ c.exponents-least.result c.args.self.now.exponents c.exponents-least.ensures refl (omega arith) c.loop-i.i (omega arith) c.loop-i.divides c.loop-i.invariant
