@@ -7,3 +7,4 @@ pub mod Obtained
 pub mod Places
 pub mod Wider
 pub mod Sought
+pub mod Compared

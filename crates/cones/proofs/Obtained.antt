@@ -1,5 +1,5 @@
 -- The limits of a row in an array. Assumes nothing.
-use Rattle.std.proofs.Common.{◌≡◌, ℕ, zero, suc, ◌+◌, ◌<◌, ◌≤◌, List, length, get_or, set, replicate, None, Option, refl, ◌∙◌, inl, inr, arith}
+use Rattle.std.proofs.Common.{◌≡◌, ℕ, zero, suc, ◌+◌, ◌<◌, ◌≤◌, List, length, get_or, set, replicate, None, Option, ◌∙◌, inl, inr, arith}
 use Rattle.std.proofs.lemmas.List.{length-set, get_or-set_same, get_or-set_other, get_or-replicate, get_or_past}
 use Rattle.std.proofs.lemmas.Bool.{cases_lt, cases_eq}
 use Rattle.cones.specs.Tables.{limit_in, limits_at, LimitsFrom}
@@ -33,15 +33,16 @@ pub record Obtaining (n : ℕ) (F : ℕ → ℕ → Option ℕ) (k : ℕ) (table
   pub rows : (p : ℕ) → p < k → LimitsFrom n (F p) (limits_at table p)
   pub past : (p : ℕ) → k ≤ p → limits_at table p ≡ replicate 8 None
 
+-- a table without limits
+pub none_at : (p : ℕ) → limits_at (replicate 64 (replicate 8 None)) p ≡ replicate 8 None
+none_at p = elim (cases_lt p 64) [
+  | inl l ↦ get_or-replicate 64 p (replicate 8 None) (replicate 8 None) l
+  | inr l ↦ get_or_past (replicate 64 (replicate 8 None)) p (replicate 8 None) l
+]
+
 module _ (n : ℕ) (F : ℕ → ℕ → Option ℕ) where
-  pub obtaining_start : Obtaining n F 0 (replicate 64 (replicate 8 None))
-  obtaining_start = record { long = refl; rows = λ p l. absurd (omega arith); past = λ p l. none p }
-    where
-      none : (p : ℕ) → limits_at (replicate 64 (replicate 8 None)) p ≡ replicate 8 None
-      none p = elim (cases_lt p 64) [
-        | inl l ↦ get_or-replicate 64 p (replicate 8 None) (replicate 8 None) l
-        | inr l ↦ get_or_past (replicate 64 (replicate 8 None)) p (replicate 8 None) l
-      ]
+  pub obtaining_start : (table : List (List (Option ℕ))) → length table ≡ 64 → ((p : ℕ) → limits_at table p ≡ replicate 8 None) → Obtaining n F 0 table
+  obtaining_start table long none = record { long = long; rows = λ p l. absurd (omega arith); past = λ p l. none p }
 
   pub obtaining_more : (k : ℕ) (table : List (List (Option ℕ))) (limits : List (Option ℕ)) → k < 64 → LimitsFrom n (F k) limits → Obtaining n F k table → Obtaining n F (k + 1) (set table k limits)
   obtaining_more k table limits few own o = record {

@@ -5,7 +5,7 @@ use Rattle.orderings.specs.Order.{at}
 use Rattle.orderings.specs.Rows.{row}
 use Rattle.orderings.proofs.Positions.{listed, few}
 use Rattle.barcode.specs.Bars.{position}
-use Rattle.barcode.specs.Gap.{IsGap}
+use Rattle.barcode.specs.Gap.{IsGap, IsGapAt}
 use Rattle.barcode.proofs.Gaps.{gap_is}
 use Rattle.barcode.proofs.Listed.{position_at}
 use Rattle.divisions.specs.Laws.{OnSheet}
@@ -21,8 +21,8 @@ nearest_rise n rows order on =
       reached = λ p k m l low e.
           let here : position order (at order k) ≡ k = position_at n order on.ordered k (listed n order on.ordered k low) (few n order on.ordered) in
           let g : IsGap rows order (row rows p) (at order k) (Some m) = subst (λ o. IsGap rows order (row rows p) (at order k) o) e (gap_is rows order p (at order k) l) in
-          let (q, h, x, d) = g.0 in
-          (q, h, rw here at x, rw here at d);
+          let there : IsGapAt rows order k (row rows p) (Some m) = subst (λ (x : ℕ). IsGapAt rows order x (row rows p) (Some m)) here g in
+          there.0;
       nearest = janet_like_lawful.separation n rows order on;
     }
 

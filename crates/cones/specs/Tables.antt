@@ -23,3 +23,8 @@ BelowLimits n limits u w = (v m : ℕ) → 1 ≤ v → v ≤ n → limit_in limi
 pub record LimitsFrom (n : ℕ) (f : ℕ → Option ℕ) (limits : List (Option ℕ)) : Type 0 where
   pub own : (v : ℕ) → 1 ≤ v → v ≤ n → v ≤ 8 → limit_in limits v ≡ f v
   pub others : (v : ℕ) → n < v → limit_in limits v ≡ None
+
+-- a table has the limits that f gives the first so many rows, of which it has places for 64, and the others have none
+pub record Obtained (n : ℕ) (f : Limits) (count : ℕ) (table : List (List (Option ℕ))) : Type 0 where
+  pub rows : (p : ℕ) → p < 64 → p < count → LimitsFrom n (f p) (limits_at table p)
+  pub past : (p : ℕ) → count ≤ p → limits_at table p ≡ replicate 8 None

@@ -3,12 +3,13 @@ ghost use Rattle.std.specs.Prelude.{◌≡◌, ℕ, ◌<◌, ◌≤◌, map, len
 ghost use Rattle.divisions.specs.Laws.{OnSheet};
 ghost use Rattle.cones.specs.Cones.{Complete, FirstShortfall};
 ghost use Rattle.cones.specs.Judged.{LawfulLimitsAreSeparated, JanetLikeCompletesWhatAnyDivisionCompletes};
-ghost use Rattle.cones.specs.Tables.{limits_at, LimitsFrom};
+ghost use Rattle.cones.specs.Tables.{limits_at, LimitsFrom, Obtained};
 
 use crate::holding::Limited;
 use crate::shortfalls::Short;
 use crate::tables::*;
 use barcode::Ranked;
+use barcode::lined::Lined;
 use divisions::Division;
 use elements::Element;
 use std::array;
@@ -31,14 +32,48 @@ fn limits_of_row<E: Element, D: Division>(
     })
 }
 
+// Writes the limits of variables 1 to n at each row into a table without limits.
+fn fill_table<E: Element, D: Division>(
+    table: &mut [Limits; 64],
+    division: &D,
+    ranked: &Ranked<E>,
+    n: u8,
+)
+    requires { (p : ℕ) → limits_at table.old p ≡ replicate 8 None }
+    ensures { Obtained n (D.Division.meaning division.now (map E.Element.shown ranked.now.rows.now) ranked.now.order.now) (length ranked.now.rows.now) table.new }
+{
+    for place in 0..ranked.rows.len().min(64) {
+        table[place] = limits_of_row(division, ranked, place, n);
+    }
+}
+
+// The same, where the rows are lined up first, so that the division is told its gaps and stars quickly.
+fn fill_table_in_line<E: Element, D: Division>(
+    table: &mut [Limits; 64],
+    division: &D,
+    ranked: &Ranked<E>,
+    n: u8,
+)
+    requires { (p : ℕ) → limits_at table.old p ≡ replicate 8 None }
+    ensures { Obtained n (D.Division.meaning division.now (map E.Element.shown ranked.now.rows.now) ranked.now.order.now) (length ranked.now.rows.now) table.new }
+{
+    let lined = Lined::of(ranked.rows, ranked.order);
+    fill_table(table, division, &lined.ranked(), n);
+}
+
+// With as many limits, lining up the rows pays.
+const MANY: usize = 40;
+
 // The limits that a division sets for variables 1 to n at each row of a sheet, each obtained once. No other variable and no other place has one.
 pub fn limits_by<E: Element, D: Division>(division: &D, ranked: &Ranked<E>, n: u8) -> [Limits; 64]
     ensures rows { (p : ℕ) → p < 64 → p < length ranked.now.rows.now → LimitsFrom n (D.Division.meaning division.now (map E.Element.shown ranked.now.rows.now) ranked.now.order.now p) (limits_at result p) }
     ensures past { (p : ℕ) → length ranked.now.rows.now ≤ p → limits_at result p ≡ replicate 8 None }
 {
     let mut table = [[None; 8]; 64];
-    for place in 0..ranked.rows.len().min(64) {
-        table[place] = limits_of_row(division, ranked, place, n);
+    if ranked.rows.len().saturating_mul(n as usize) < MANY {
+        fill_table(&mut table, division, ranked, n);
+    } else {
+        fill_table_in_line(&mut table, division, ranked, n);
     }
     table
 }

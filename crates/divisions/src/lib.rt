@@ -34,6 +34,7 @@ impl Division for Janet {
 
     ghost lawful = { λ d. janet_lawful };
 
+    #[inline(always)]
     fn limit<E: Element>(&self, ranked: &Ranked<E>, place: usize, variable: u8) -> Option<u16> {
         if ranked.has_star(place, variable) {
             None
@@ -52,6 +53,7 @@ impl Division for JanetLike {
 
     ghost lawful = { λ d. janet_like_lawful };
 
+    #[inline(always)]
     fn limit<E: Element>(&self, ranked: &Ranked<E>, place: usize, variable: u8) -> Option<u16> {
         ranked.gap(place, variable)
     }

@@ -1,12 +1,8 @@
-use Rattle.std.proofs.Common.{arith}
-use Rattle.cones.proofs.Obtained.{obtaining_start, obtaining_more}
+use Rattle.cones.proofs.Obtained.{none_at}
 use Rattle.cones.proofs.judging.limits_by.Goals as goal
 
-pub loop-place-init : goal.loop-place-init
-loop-place-init g c = obtaining_start _ _
+pub fill_table-requires : goal.fill_table-requires
+fill_table-requires g c = none_at
 
-pub loop-place-preserved : goal.loop-place-preserved
-loop-place-preserved g c = obtaining_more _ _ c.loop-place.place c.loop-place.table c.limits_of_row.result (omega arith) c.limits_of_row.ensures c.loop-place.invariant
-
-pub returns : goal.returns
-returns g c = record { rows = λ p few l. c.loop-place.invariant.rows p (omega arith); past = λ p l. c.loop-place.invariant.past p (omega arith) }
+pub fill_table_in_line-requires : goal.fill_table_in_line-requires
+fill_table_in_line-requires g c = none_at

@@ -1,6 +1,6 @@
 use Rattle.std.proofs.Common.{map}
 use Rattle.cones.proofs.Obtained.{Obtaining}
-use Rattle.cones.proofs.judging.limits_by.Given as goal
+use Rattle.cones.proofs.judging.fill_table.Given as goal
 
 -- the rows so far have their limits, and the others none
 abbrev pub invariant-loop-place : goal.invariant-loop-place
