@@ -145,7 +145,10 @@ pub fn read(log: &[u8]) -> Result<Option<Reading<'_>>, Misreading>
             let (element, rest) = part(*code, after, ELEMENT_BYTES)?;
             (Command::Locate(element), rest)
         }
-        [0x08, rest @ ..] => (Command::Reopen, rest),
+        [code @ 0x08, after @ ..] => {
+            let (_, rest) = part(*code, after, 0)?;
+            (Command::Reopen, rest)
+        }
         [code, ..] => {
             return Err(Misreading {
                 code: *code,
