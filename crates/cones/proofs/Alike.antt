@@ -39,18 +39,22 @@ module _ (n : ℕ) (rows : List Shown) (lim other : Limits) (same : Same n rows 
         none_before = λ x l h s. f.none_before x l h (short_alike n rows other lim back p x l s);
       }
 
--- what the first shortfall by a table says of the division that the table holds
-pub judged_by : (m : Meaning) → Lawful m → (n : ℕ) (rows : List Shown) (order : List ℕ) → OnSheet n rows order → (table : Limits) → Same n rows table (m rows order) →
-    (r : Option Short) → MatchOption r ((p v d : ℕ) → Shortfall n rows table p v d → ⊥) (λ s. FirstShortfall n rows table s.place s.variable s.power) →
+  -- the first shortfall by the one is that by the other
+  pub found_alike : (r : Option Short) → MatchOption r ((p v m : ℕ) → Shortfall n rows lim p v m → ⊥) (λ s. FirstShortfall n rows lim s.place s.variable s.power) →
+      MatchOption r ((p v m : ℕ) → Shortfall n rows other p v m → ⊥) (λ s. FirstShortfall n rows other s.place s.variable s.power)
+  found_alike None none = λ p v m s. none p v m (short_alike n rows other lim (same_back n rows lim other same) p v m s)
+  found_alike (Some s) f = first_alike s.place s.variable s.power f
+
+-- what the first shortfall by a lawful division's limits says of the rows of a sheet
+pub judged_by : (m : Meaning) → Lawful m → (n : ℕ) (rows : List Shown) (order : List ℕ) → OnSheet n rows order →
+    (r : Option Short) → MatchOption r ((p v d : ℕ) → Shortfall n rows (m rows order) p v d → ⊥) (λ s. FirstShortfall n rows (m rows order) s.place s.variable s.power) →
     MatchOption r (Complete n rows (m rows order)) (λ s. FirstShortfall n rows (m rows order) s.place s.variable s.power × (Complete n rows (m rows order) → ⊥))
-judged_by m law n rows order on table same r found = told r found
+judged_by m law n rows order on r found = told r found
   where
     exactly : (((p v d : ℕ) → Shortfall n rows (m rows order) p v d → ⊥) → Complete n rows (m rows order)) × (Complete n rows (m rows order) → (p v d : ℕ) → Shortfall n rows (m rows order) p v d → ⊥)
     exactly = complete_exactly_without_shortfall on.kind n order rows (m rows order) on.ordered on.fit (law.separation n rows order on)
 
-    told : (r : Option Short) → MatchOption r ((p v d : ℕ) → Shortfall n rows table p v d → ⊥) (λ s. FirstShortfall n rows table s.place s.variable s.power) →
+    told : (r : Option Short) → MatchOption r ((p v d : ℕ) → Shortfall n rows (m rows order) p v d → ⊥) (λ s. FirstShortfall n rows (m rows order) s.place s.variable s.power) →
         MatchOption r (Complete n rows (m rows order)) (λ s. FirstShortfall n rows (m rows order) s.place s.variable s.power × (Complete n rows (m rows order) → ⊥))
-    told None none = exactly.0 (λ p v d s. none p v d (short_alike n rows (m rows order) table (same_back n rows table (m rows order) same) p v d s))
-    told (Some s) f =
-        let g = first_alike n rows table (m rows order) same s.place s.variable s.power f in
-        (g, λ c. exactly.1 c s.place s.variable s.power g.shortfall)
+    told None none = exactly.0 none
+    told (Some s) f = (f, λ c. exactly.1 c s.place s.variable s.power f.shortfall)

@@ -1,8 +1,8 @@
 -- The limits of a row in an array. Assumes nothing.
-use Rattle.std.proofs.Common.{◌≡◌, ℕ, zero, suc, ◌+◌, ◌<◌, ◌≤◌, List, length, get_or, set, replicate, None, Option, ◌∙◌, inl, inr, arith}
+use Rattle.std.proofs.Common.{◌≡◌, ℕ, zero, suc, ◌+◌, ◌<◌, ◌≤◌, List, length, get_or, set, replicate, None, Option, sym, ap, ◌∙◌, inl, inr, arith}
 use Rattle.std.proofs.lemmas.List.{length-set, get_or-set_same, get_or-set_other, get_or-replicate, get_or_past}
 use Rattle.std.proofs.lemmas.Bool.{cases_lt, cases_eq}
-use Rattle.cones.specs.Tables.{limit_in, limits_at, LimitsFrom}
+use Rattle.cones.specs.Tables.{limit_in, limits_at, limits_of, LimitsFrom, Obtained}
 use Rattle.cones.proofs.Reading.{limit_past}
 
 -- the limits of variables 1 to n stand at the places before these, and none at the others
@@ -10,7 +10,7 @@ pub limits_from : (ls : List (Option ℕ)) (n : ℕ) (F : ℕ → Option ℕ) �
     ((k : ℕ) → k < 8 → (k + 1 ≤ n → get_or ls k None ≡ F (k + 1)) × (n < k + 1 → get_or ls k None ≡ None)) → LimitsFrom n F ls
 limits_from ls n F eight h = record {
   own = own;
-  others = others;
+  others = λ v. elim [ inl high ↦ others v high | inr past ↦ limit_past ls v (omega arith) ];
 }
   where
     next : (k : ℕ) → k + 1 ≡ suc k
@@ -32,6 +32,22 @@ pub record Obtaining (n : ℕ) (F : ℕ → ℕ → Option ℕ) (k : ℕ) (table
   pub long : length table ≡ 64
   pub rows : (p : ℕ) → p < k → LimitsFrom n (F p) (limits_at table p)
   pub past : (p : ℕ) → k ≤ p → limits_at table p ≡ replicate 8 None
+
+-- two tables with the same limits
+pub same_obtained : (n count : ℕ) (F : ℕ → ℕ → Option ℕ) (table other : List (List (Option ℕ))) → Obtained n F count table → Obtained n F count other →
+    (p v : ℕ) → p < count → 1 ≤ v → v ≤ n → limits_of table p v ≡ limits_of other p v
+same_obtained n count F table other a b p v l low high = elim (cases_lt p 64) [
+  | inr past ↦ ap (λ xs. limit_in xs v) (a.past p (inr past) ∙ sym (b.past p (inr past)))
+  | inl few ↦ elim (cases_lt 8 v) [
+    | inl more ↦ (a.rows p few l).others v (inr more) ∙ sym ((b.rows p few l).others v (inr more))
+    | inr eight ↦ (a.rows p few l).own v low high eight ∙ sym ((b.rows p few l).own v low high eight)
+  ]
+]
+
+-- on a sheet these are all of its limits
+pub all_obtained : (n count : ℕ) (F : ℕ → ℕ → Option ℕ) (table : List (List (Option ℕ))) → Obtained n F count table → n ≤ 8 → count ≤ 64 →
+    (p v : ℕ) → p < count → 1 ≤ v → v ≤ n → limits_of table p v ≡ F p v
+all_obtained n count F table o eight few p v l low high = (o.rows p (omega arith) l).own v low high (omega arith)
 
 -- a table without limits
 pub none_at : (p : ℕ) → limits_at (replicate 64 (replicate 8 None)) p ≡ replicate 8 None

@@ -1,5 +1,5 @@
 -- How a table of limits is read: a list for each row, with an entry for each of eight variables. Assumes nothing.
-use Rattle.std.specs.Prelude.{◌≡◌, ℕ, ◌+◌, ◌<◌, ◌≤◌, List, ◌∷◌, replicate, Some, None, Option, slice_index_or}
+use Rattle.std.specs.Prelude.{◌≡◌, ℕ, ◌+◌, ◌<◌, ◌≤◌, ◌⊎◌, List, ◌∷◌, replicate, Some, None, Option, slice_index_or}
 use Rattle.elements.specs.Element.{Shown, exponent}
 use Rattle.cones.specs.Cones.{Limits}
 
@@ -22,9 +22,9 @@ BelowLimits n limits u w = (v m : ℕ) → 1 ≤ v → v ≤ n → limit_in limi
 -- a row's limits are those that f gives variables 1 to n, of which there are eight at most; no other variable has one
 pub record LimitsFrom (n : ℕ) (f : ℕ → Option ℕ) (limits : List (Option ℕ)) : Type 0 where
   pub own : (v : ℕ) → 1 ≤ v → v ≤ n → v ≤ 8 → limit_in limits v ≡ f v
-  pub others : (v : ℕ) → n < v → limit_in limits v ≡ None
+  pub others : (v : ℕ) → (n < v) ⊎ (8 < v) → limit_in limits v ≡ None
 
 -- a table has the limits that f gives the first so many rows, of which it has places for 64, and the others have none
 pub record Obtained (n : ℕ) (f : Limits) (count : ℕ) (table : List (List (Option ℕ))) : Type 0 where
   pub rows : (p : ℕ) → p < 64 → p < count → LimitsFrom n (f p) (limits_at table p)
-  pub past : (p : ℕ) → count ≤ p → limits_at table p ≡ replicate 8 None
+  pub past : (p : ℕ) → (count ≤ p) ⊎ (64 ≤ p) → limits_at table p ≡ replicate 8 None

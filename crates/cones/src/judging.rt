@@ -1,9 +1,9 @@
 // Whether a division makes rows complete. The division is asked for each limit once; what judges is handed the limits.
-ghost use Rattle.std.specs.Prelude.{◌≡◌, ℕ, ◌<◌, ◌≤◌, map, length, replicate, None, MatchOption};
+ghost use Rattle.std.specs.Prelude.{◌≡◌, ℕ, List, map, length, replicate, None, Option, MatchOption};
 ghost use Rattle.divisions.specs.Laws.{OnSheet};
-ghost use Rattle.cones.specs.Cones.{Complete, FirstShortfall};
+ghost use Rattle.cones.specs.Cones.{Complete, Shortfall, FirstShortfall};
 ghost use Rattle.cones.specs.Judged.{LawfulLimitsAreSeparated, JanetLikeCompletesWhatAnyDivisionCompletes};
-ghost use Rattle.cones.specs.Tables.{limits_at, LimitsFrom, Obtained};
+ghost use Rattle.cones.specs.Tables.{limits_at, limits_of, LimitsFrom, Obtained};
 
 use crate::holding::Limited;
 use crate::shortfalls::Short;
@@ -64,10 +64,12 @@ fn fill_table_in_line<E: Element, D: Division>(
 // With as many limits, lining up the rows pays.
 const MANY: usize = 40;
 
-// The limits that a division sets for variables 1 to n at each row of a sheet, each obtained once. No other variable and no other place has one.
+// The limits that a division sets for variables 1 to n, of which eight at most, at each row, of which 64 at most, each obtained once.
+// No other variable and no other place has one.
 pub fn limits_by<E: Element, D: Division>(division: &D, ranked: &Ranked<E>, n: u8) -> [Limits; 64]
-    ensures rows { (p : ℕ) → p < 64 → p < length ranked.now.rows.now → LimitsFrom n (D.Division.meaning division.now (map E.Element.shown ranked.now.rows.now) ranked.now.order.now p) (limits_at result p) }
-    ensures past { (p : ℕ) → length ranked.now.rows.now ≤ p → limits_at result p ≡ replicate 8 None }
+    ensures { let rows = map E.Element.shown ranked.now.rows.now in
+        let limits = D.Division.meaning division.now rows ranked.now.order.now in
+        Obtained n limits (length rows) result }
 {
     let mut table = [[None; 8]; 64];
     if ranked.rows.len().saturating_mul(n as usize) < MANY {
@@ -78,14 +80,25 @@ pub fn limits_by<E: Element, D: Division>(division: &D, ranked: &Ranked<E>, n: u
     table
 }
 
-// The first shortfall of the rows of a sheet by a division under an ordering, or none where they are complete.
+// The first shortfall of rows by the limits that a division is asked for under an ordering, or none where there is none.
+// On a sheet these are all of its limits, and there is none exactly where the rows are complete.
 // Rows that any lawful division completes under an ordering are completed under it by Janet-like division.
 pub fn shortfall_by<E: Element, D: Division>(
     division: &D,
     ranked: &Ranked<E>,
     n: u8,
 ) -> Option<Short>
-    ensures judged { OnSheet n (map E.Element.shown ranked.now.rows.now) ranked.now.order.now → MatchOption result (Complete n (map E.Element.shown ranked.now.rows.now) (D.Division.meaning division.now (map E.Element.shown ranked.now.rows.now) ranked.now.order.now)) (λ s. FirstShortfall n (map E.Element.shown ranked.now.rows.now) (D.Division.meaning division.now (map E.Element.shown ranked.now.rows.now) ranked.now.order.now) s.place s.variable s.power × (Complete n (map E.Element.shown ranked.now.rows.now) (D.Division.meaning division.now (map E.Element.shown ranked.now.rows.now) ranked.now.order.now) → ⊥)) }
+    ensures first { let rows = map E.Element.shown ranked.now.rows.now in
+        let limits = D.Division.meaning division.now rows ranked.now.order.now in
+        (table : List (List (Option ℕ))) → Obtained n limits (length rows) table →
+        MatchOption result ((p v m : ℕ) → Shortfall n rows (limits_of table) p v m → ⊥) (λ s.
+        FirstShortfall n rows (limits_of table) s.place s.variable s.power) }
+    ensures judged { let rows = map E.Element.shown ranked.now.rows.now in
+        let limits = D.Division.meaning division.now rows ranked.now.order.now in
+        OnSheet n rows ranked.now.order.now →
+        MatchOption result (Complete n rows limits) (λ s.
+        FirstShortfall n rows limits s.place s.variable s.power ×
+        (Complete n rows limits → ⊥)) }
     ensures separated { LawfulLimitsAreSeparated }
     ensures wider { JanetLikeCompletesWhatAnyDivisionCompletes }
 {

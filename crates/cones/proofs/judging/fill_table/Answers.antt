@@ -1,4 +1,4 @@
-use Rattle.std.proofs.Common.{rules, arith}
+use Rattle.std.proofs.Common.{inl, inr, rules, arith}
 use Rattle.cones.proofs.Obtained.{obtaining_start, obtaining_more}
 use Rattle.cones.proofs.judging.fill_table.Goals as goal
 
@@ -9,4 +9,4 @@ pub loop-place-preserved : goal.loop-place-preserved
 loop-place-preserved g c = obtaining_more _ _ c.loop-place.place c.loop-place.table c.limits_of_row.result (omega arith) c.limits_of_row.ensures c.loop-place.invariant
 
 pub returns : goal.returns
-returns g c = record { rows = λ p few l. c.loop-place.invariant.rows p (omega arith); past = λ p l. c.loop-place.invariant.past p (omega arith) }
+returns g c = record { rows = λ p few l. c.loop-place.invariant.rows p (omega arith); past = λ p. elim [ inl l ↦ c.loop-place.invariant.past p (omega arith) | inr l ↦ c.loop-place.invariant.past p (omega arith) ] }

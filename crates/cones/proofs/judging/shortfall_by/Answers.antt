@@ -1,19 +1,26 @@
-use Rattle.std.proofs.Common.{map, arith}
-use Rattle.std.proofs.lemmas.List.{length-map}
-use Rattle.cones.specs.Tables.{limits_of}
-use Rattle.cones.proofs.Alike.{judged_by}
+use Rattle.std.proofs.Common.{map, length}
+use Rattle.cones.specs.Tables.{limits_of, Obtained}
+use Rattle.cones.proofs.Alike.{found_alike, judged_by}
+use Rattle.cones.proofs.Obtained.{same_obtained, all_obtained}
 use Rattle.cones.proofs.Wider.{lawful_limits_are_separated, janet_like_completes_what_any_division_completes}
 use Rattle.cones.proofs.judging.shortfall_by.Goals as goal
 
 pub returns : goal.returns
-returns g c = record {
-  judged = λ on.
-      let rows = map g.E.Element.shown c.args.ranked.now.rows.now in
-      let k = length-map c.args.ranked.now.rows.now g.E.Element.shown in
-      judged_by (g.D.Division.meaning c.args.division.now) (g.met.D.Division.lawful c.args.division.now) c.args.n rows c.args.ranked.now.order.now on
-      (limits_of c.limits_by-limits.result)
-      (λ p v l low high. (c.limits_by-limits.ensures.rows p (omega (arith, on.few)) (omega arith)).own v low high (omega (arith, on.variables.most)))
-      c.first_shortfall.result c.first_shortfall.ensures.first;
-  separated = lawful_limits_are_separated;
-  wider = janet_like_completes_what_any_division_completes;
-}
+returns g c =
+    let n = c.args.n in
+    let order = c.args.ranked.now.order.now in
+    let rows = map g.E.Element.shown c.args.ranked.now.rows.now in
+    let count = length rows in
+    let division = g.D.Division.meaning c.args.division.now in
+    let lim = division rows order in
+    let table = c.limits_by-limits.result in
+    let own : Obtained n lim count table = c.limits_by-limits.ensures in
+    let found = c.first_shortfall.result in
+    let first = c.first_shortfall.ensures.first in
+    record {
+      first = λ other o. found_alike n rows (limits_of table) (limits_of other) (same_obtained n count lim table other own o) found first;
+      judged = λ on. judged_by division (g.met.D.Division.lawful c.args.division.now) n rows order on found
+          (found_alike n rows (limits_of table) lim (all_obtained n count lim table own on.variables.most on.few) found first);
+      separated = lawful_limits_are_separated;
+      wider = janet_like_completes_what_any_division_completes;
+    }
