@@ -3,7 +3,7 @@
 
 pub mod lined;
 
-ghost use Rattle.std.specs.Prelude.{◌≡◌, ◌≢◌, ℕ, suc, ◌+◌, ◌<◌, ◌≤◌, true, ◌&&◌, slice_set, map, List, length, None, IfSome, Decides};
+ghost use Rattle.std.specs.Prelude.{◌≡◌, ◌≢◌, ℕ, suc, ◌+◌, ◌<◌, ◌≤◌, true, ◌&&◌, slice_set, map, List, [], length, None, IfSome, IsNone, Decides};
 ghost use Rattle.std.specs.Option.{ForSome};
 ghost use Rattle.orderings.specs.Order.{at, IsOrdering, PartAt};
 ghost use Rattle.orderings.specs.Rows.{row as at_place};
@@ -233,6 +233,8 @@ impl<'a, E: Element> Ranked<'a, E> {
     pub fn new(rows: &'a [E], order: &'a [u8]) -> Self
         ensures rows { result.rows.now ≡ rows.now }
         ensures order { result.order.now ≡ order.now }
+        ensures bars { result.bars.now ≡ [] }
+        ensures line { IsNone result.line }
     {
         let bars: &[Level] = &[];
         Ranked {
@@ -378,9 +380,11 @@ impl<'a, E: Element> Bars<'a, E> {
     }
 
     // Makes the bars of the first variables of an ordering known, of so many as are asked for and at most 8. Those that are known already are kept.
+    // Of more than 64 rows no more becomes known.
     pub fn learn(&mut self, order: &[u8], most: usize)
         ensures rows { self.new.rows.now ≡ self.old.rows.now }
         ensures known { length self.old.rows.now ≤ 64 → Knows order.now most self.new.listed self.new.known }
+        ensures many { 64 < length self.old.rows.now → self.new ≡ self.old }
     {
         if self.rows.len() > 64 {
             return;

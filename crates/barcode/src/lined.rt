@@ -1,5 +1,5 @@
 // Rows in increasing order. There a gap is told by the first later row that parts early enough, so that all gaps are found quickly.
-ghost use Rattle.std.specs.Prelude.{◌≡◌, ℕ, ◌+◌, ◌<◌, ◌≤◌, true, map, length, is_some, Decides, slice_index};
+ghost use Rattle.std.specs.Prelude.{◌≡◌, ℕ, ◌+◌, ◌<◌, ◌≤◌, ◌↔◌, true, map, length, IsSome, Decides, slice_index};
 ghost use Rattle.std.specs.Ordering.{is_lt};
 ghost use Rattle.orderings.specs.Order.{at, Below};
 ghost use Rattle.orderings.specs.Rows.{row as at_place};
@@ -168,11 +168,12 @@ impl<'a, E: Element> Lined<'a, E> {
         Lined { rows, order, line }
     }
 
-    // The rows under the ordering, with what is kept.
+    // The rows under the ordering, with the line where it is kept.
     pub fn ranked(&self) -> Ranked<'_, E>
         ensures rows { result.rows.now ≡ self.now.rows.now }
         ensures order { result.order.now ≡ self.now.order.now }
-        ensures line { length self.now.rows.now ≤ 64 → length self.now.order.now ≤ 8 → is_some result.line ≡ true }
+        ensures line { IsSome result.line ↔
+            ((length self.now.rows.now ≤ 64) × (length self.now.order.now ≤ 8)) }
     {
         if self.rows.len() > 64 || self.order.len() > 8 {
             return Ranked::new(self.rows, self.order);

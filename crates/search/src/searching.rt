@@ -1,7 +1,7 @@
 // The first ordering that makes rows complete, and how many prefixes are tested on the way.
-ghost use Rattle.std.specs.Prelude.{◌≡◌, ◌≤◌, map, length, None};
+ghost use Rattle.std.specs.Prelude.{◌≡◌, ◌≤◌, map, length, None, IfSome};
 ghost use Rattle.std.specs.Option.{option_map};
-ghost use Rattle.orderings.specs.Order.{VariableCount};
+ghost use Rattle.orderings.specs.Order.{VariableCount, IsOrdering};
 ghost use Rattle.search.specs.Prefixes.{padded, ListingHasEveryPrefixInOrder};
 ghost use Rattle.search.specs.Liveness.{RowsOfSheet, answer, tested as tested_prefixes};
 ghost use Rattle.search.specs.Theorems.{LiveIsToldByItsTest, PrefixLimitsHoldInEveryExtension, EveryExtensionOfADeadPrefixIsDead, EveryLivePrefixIsReached, NoOrderingExtendsADeadPrefixToCompleteness, FullPrefixIsLiveExactlyWhenComplete, TheTestedPrefixesAreThoseOfTheRule, TheAnswerIsTheFirstCompleteOrdering};
@@ -24,10 +24,11 @@ pub struct Found {
 const LONG: u32 = 64;
 
 // Goes through the prefixes in the order of the listing, and goes on from live ones only. Where n is no count of variables,
-// or there are more than 64 rows, nothing is tested and nothing found.
+// or there are more than 64 rows, nothing is tested and nothing found. What is found is an ordering, whatever the rows.
 pub fn search<E: Element, D: Division>(division: &D, rows: &[E], n: u8) -> Found
     ensures ordering { RowsOfSheet n (map E.Element.shown rows.now) → result.ordering ≡ option_map padded (answer (D.Division.meaning division.now) n (map E.Element.shown rows.now)) }
     ensures tested { RowsOfSheet n (map E.Element.shown rows.now) → result.tested ≡ length (tested_prefixes (D.Division.meaning division.now) n (map E.Element.shown rows.now)) }
+    ensures ordered { IfSome result.ordering (IsOrdering n) }
     ensures refused { (VariableCount n → length rows.now ≤ 64 → ⊥) → (result.tested ≡ 0) × (result.ordering ≡ None) }
     ensures listing { ListingHasEveryPrefixInOrder }
     ensures test { LiveIsToldByItsTest }

@@ -1,14 +1,16 @@
-use Rattle.std.proofs.Common.{◌≡◌, ℕ, ◌≤◌, List, length, None, Option, sym, refl, ◌∙◌, arith}
+use Rattle.std.proofs.Common.{◌≡◌, ℕ, ◌≤◌, List, length, take, None, IfSome, Option, sym, refl, ◌∙◌, arith}
 use Rattle.std.specs.Option.{option_map}
 use Rattle.std.proofs.lemmas.Bool.Decides.{not_from_Decides}
 use Rattle.std.proofs.lemmas.List.{length-map}
 use Rattle.std.proofs.lemmas.Grind.{common_steps}
 use Rattle.elements.specs.Element.{Shown}
-use Rattle.orderings.specs.Order.{VariableCount}
+use Rattle.orderings.specs.Order.{VariableCount, IsOrdering}
 use Rattle.divisions.specs.Laws.{Meaning}
 use Rattle.search.specs.Prefixes.{padded, ListingHasEveryPrefixInOrder}
 use Rattle.search.specs.Liveness.{RowsOfSheet, answer, tested}
 use Rattle.search.specs.Theorems.{LiveIsToldByItsTest, PrefixLimitsHoldInEveryExtension, EveryExtensionOfADeadPrefixIsDead, EveryLivePrefixIsReached, NoOrderingExtendsADeadPrefixToCompleteness, FullPrefixIsLiveExactlyWhenComplete, TheTestedPrefixesAreThoseOfTheRule, TheAnswerIsTheFirstCompleteOrdering}
+use Rattle.search.proofs.Held.{open_entries}
+use Rattle.search.proofs.Orders.{completed_ordering}
 use Rattle.search.proofs.Listed.{listed}
 use Rattle.search.proofs.Deadness.{live_is_told_by_its_test, prefix_limits_hold_in_every_extension, every_extension_of_a_dead_prefix_is_dead, every_live_prefix_is_reached, no_ordering_extends_a_dead_prefix_to_completeness, full_prefix_is_live_exactly_when_complete}
 use Rattle.search.proofs.Tested.{the_tested_prefixes_are_those_of_the_rule}
@@ -80,9 +82,10 @@ walk-preserved g c = (
 
 -- what is found, and the theorems
 with_theorems : {m : Meaning} {n : ℕ} {rows : List Shown} {o : Option (List ℕ)} {c k : ℕ} → (RowsOfSheet n rows → Answers m n rows o c) →
-    ((VariableCount n → k ≤ 64 → ⊥) → (c ≡ 0) × (o ≡ None)) → record {
+    IfSome o (IsOrdering n) → ((VariableCount n → k ≤ 64 → ⊥) → (c ≡ 0) × (o ≡ None)) → record {
       ordering : RowsOfSheet n rows → o ≡ option_map padded (answer m n rows);
       tested : RowsOfSheet n rows → c ≡ length (tested m n rows);
+      ordered : IfSome o (IsOrdering n);
       refused : (VariableCount n → k ≤ 64 → ⊥) → (c ≡ 0) × (o ≡ None);
       listing : ListingHasEveryPrefixInOrder;
       test : LiveIsToldByItsTest;
@@ -94,9 +97,10 @@ with_theorems : {m : Meaning} {n : ℕ} {rows : List Shown} {o : Option (List �
       full : FullPrefixIsLiveExactlyWhenComplete;
       first : TheAnswerIsTheFirstCompleteOrdering;
     }
-with_theorems answers refused = record {
+with_theorems answers ordered refused = record {
   ordering = λ s. (answers s).ordering;
   tested = λ s. (answers s).tested;
+  ordered = ordered;
   refused = refused;
   listing = listed;
   test = live_is_told_by_its_test;
@@ -111,15 +115,18 @@ with_theorems answers refused = record {
 
 pub returns-then-not-is_variable_count : goal.returns-then-not-is_variable_count
 returns-then-not-is_variable_count g c =
-    with_theorems {m = g.D.Division.meaning c.args.division.now} (λ s. absurd (grind (arith, common_steps))) (λ _. (refl, refl))
+    with_theorems {m = g.D.Division.meaning c.args.division.now} (λ s. absurd (grind (arith, common_steps))) tt (λ _. (refl, refl))
 
 pub returns-in_default : goal.returns-in_default
 returns-in_default g c =
-    with_theorems (walking_end (g.met.D.Division.lawful c.args.division.now) c.walk.invariant.0 c.in-None.ensures c.in_default.ensures.last) (grind (arith, common_steps))
+    with_theorems (walking_end (g.met.D.Division.lawful c.args.division.now) c.walk.invariant.0 c.in-None.ensures c.in_default.ensures.last) tt (grind (arith, common_steps))
 
 pub returns-then-is_full : goal.returns-then-is_full
 returns-then-is_full g c =
     with_theorems
     (walking_found (g.met.D.Division.lawful c.args.division.now) c.walk.invariant.0 c.in-Some.x c.in-Some.ensures c.push.new.self c.push.ensures _ _ _ c.extend.ensures.extended
     c.if-not-extend.false (c.is_full.ensures.0 c.if-is_full.true) _ c.completed.ensures)
+    (let p = c.push.new.self in
+    let same : p.n ≡ c.args.n = c.push.ensures.same ∙ c.walk.invariant.0.same in
+    rw (c.completed.ensures, ← same) (completed_ordering p.n (take p.len p.entries) (open_entries p.proper) p.few))
     (grind (arith, common_steps))
