@@ -1,6 +1,11 @@
 pub mod Tables
 pub mod Rows
 pub mod Natural
+pub mod Judged
+pub mod Sound
+pub mod Laws
+pub mod Once
+pub mod Histories
 pub mod Steps
 pub mod Whole
 pub mod Verdicts

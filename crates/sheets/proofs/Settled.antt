@@ -11,7 +11,7 @@ use Rattle.search.specs.Theorems.{FirstComplete, NoneComplete, TheAnswerIsTheFir
 use Rattle.search.proofs.Orders.{ordering_of}
 use Rattle.sheets.specs.declared.parts.Parts.{Parts}
 use Rattle.sheets.specs.Book.{opened, settled_by, settle, first, none, serving, unserved}
-use Rattle.sheets.specs.Read.{Stands, Moved, Performed}
+use Rattle.sheets.specs.Read.{Stands, ActsAsPromised}
 use Rattle.sheets.proofs.Steps.{makes_at, granted_to, kept_by}
 use Rattle.sheets.proofs.Verdicts.{on_sheet}
 
@@ -47,17 +47,17 @@ module _ {E : Type 0} (admits : ℕ → Bool) (shown : E → Shown) (p : Parts E
     count_of = counted seen_of_sheet ∙ ap (λ (r : List Shown). length (tested m n r)) same
 
     -- no ordering was found: the sheet stays as it is
-    pub unserved_by : (RowsOfSheet n seen → None ≡ option_map padded (answer m n seen)) → Performed admits shown opened p (settle m) (refused 16 (count ∷ [])) p
+    pub unserved_by : (RowsOfSheet n seen → None ≡ option_map padded (answer m n seen)) → ActsAsPromised admits shown opened p (settle m) (refused 16 (count ∷ [])) opened p
     unserved_by found =
         let lost : NoneComplete m n seen = (theorem m law n seen seen_of_sheet).1 (nothing_found padded (answer m n seen) (found seen_of_sheet)) in
         let never : NoneComplete m n rows = subst (λ (r : List Shown). NoneComplete m n r) same lost in
-        kept_by admits shown opened p (settle m) (refused 16 (count ∷ [])) st (tt, (has_rows, tt)) (none never)
+        kept_by admits shown opened p (settle m) law (refused 16 (count ∷ [])) st (tt, (has_rows, tt)) (none never)
         (rw count_of (unserved never))
 
     -- an ordering was found, and written
     pub served_by : (q : Parts E) (ordering : List ℕ) → (RowsOfSheet n seen → Some ordering ≡ option_map padded (answer m n seen)) →
         q.table ≡ p.table → q.header ≡ p.header → vec_items q.order ≡ ordering →
-        Moved admits shown opened p (settle m) (granted (count ∷ ordering)) (settled_by m) q
+        ActsAsPromised admits shown opened p (settle m) (granted (count ∷ ordering)) (settled_by m) q
     served_by q ordering found table header written =
         let got = something_found padded ordering (answer m n seen) (found seen_of_sheet) in
         let best : FirstComplete m n rows got.0 = subst (λ (r : List Shown). FirstComplete m n r got.0) same ((theorem m law n seen seen_of_sheet).0 got.0 got.1) in
@@ -70,6 +70,6 @@ module _ {E : Type 0} (admits : ℕ → Bool) (shown : E → Shown) (p : Parts E
           rows = st.rows;
           blanks = st.blanks;
         } in
-        granted_to admits shown opened p (settle m) (settled_by m) q (count ∷ ordering) st stands (tt, (has_rows, tt))
+        granted_to admits shown opened p (settle m) law (settled_by m) q (count ∷ ordering) st stands (tt, (has_rows, tt))
         (rw (table, header, at) (first best))
         (rw (count_of, ← got.2) (serving best))

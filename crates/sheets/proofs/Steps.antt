@@ -13,8 +13,10 @@ use Rattle.barcode.specs.Bars.{Star, bar_number}
 use Rattle.sheets.specs.declared.parts.Parts.{Parts}
 use Rattle.sheets.specs.Sheet.{Makes, PlaceCount, natural_order}
 use Rattle.sheets.specs.Book.{State, opened, Book, Call, insert, withdraw, checks, Becomes, Tells, TellsBar, starred, unstarred, fresh}
-use Rattle.sheets.specs.Read.{Stands, book, Moved, Performed}
+use Rattle.sheets.specs.Read.{Stands, book, IsAsPromised, FollowsThePlainBook, ActsAsPromised}
+use Rattle.sheets.specs.History.{Run, over, LawfulCall, just_opened, OpenedThenWentThrough}
 use Rattle.sheets.proofs.Natural.{natural_ordered}
+use Rattle.sheets.proofs.Histories.{holds_after_every_call, reached_by}
 use Rattle.sheets.proofs.Rows.{some_has, rows_insert, rows_pushed, blanks_insert, without, length_without, rows_without, rows_split, rows_withdraw, blanks_withdraw}
 
 -- books by their parts
@@ -34,41 +36,55 @@ module _ (admits : ℕ → Bool) (state : State) where
       subst (λ (x : ℕ). Makes admits x count' table' order') (sym a) (subst (λ (x : ℕ). Makes admits n x table' order') (sym b)
       (subst (λ (x : List Shown). Makes admits n count x order') (sym c) (subst (λ (x : List ℕ). Makes admits n count table x) (sym d) m)))
 
-module _ {E : Type 0} (admits : ℕ → Bool) (shown : E → Shown) (state : State) (p : Parts E) (call : Call) where
+module _ {E : Type 0} (admits : ℕ → Bool) (shown : E → Shown) where
+  -- a lawful call that follows the plain book does so after every history
+  pub as_promised : {state : State} {p : Parts E} {call : Call} {told : Answer} {next : State} {q : Parts E} → LawfulCall call →
+      FollowsThePlainBook admits shown state p call told next q → ActsAsPromised admits shown state p call told next q
+  as_promised {state} {p} {call} {told} {next} {q} law call_follows = record {
+    follows_the_plain_book = call_follows;
+    after_every_call = λ h equals.
+        let reached = reached_by equals.reached (book admits shown next q) call told law (call_follows.answered equals.stands) (call_follows.follows equals.stands) in
+        record {
+          equals_the_plain_book = record { stands = call_follows.stands equals.stands; reached = reached };
+          holds_after_every_call = holds_after_every_call reached;
+        };
+  }
+
+module _ {E : Type 0} (admits : ℕ → Bool) (shown : E → Shown) (state : State) (p : Parts E) (call : Call) (law : LawfulCall call) where
   -- a check that fails
-  pub refused_by : (r : ℕ) → Stands admits shown p → Fails (checks (book admits shown state p) call) r → Performed admits shown state p call (refused r []) p
-  refused_by r st f = record {
+  pub refused_by : (r : ℕ) → Stands admits shown p → Fails (checks (book admits shown state p) call) r → ActsAsPromised admits shown state p call (refused r []) state p
+  refused_by r st f = as_promised admits shown law record {
     stands = λ s. s;
     follows = λ _. judged_refused (λ _. book admits shown state p) (Becomes (book admits shown state p) call) (checks (book admits shown state p) call) r f;
     answered = λ _. judged_refused (λ x. refused x []) (Tells (book admits shown state p) call) (checks (book admits shown state p) call) r f;
-    unmade = λ none. absurd (none st);
-    kept = λ _ _ _. (refl, refl);
+    refused_by_8 = λ none. absurd (none st);
+    refused_alters_nothing = λ _ _ _. (refl, refl);
   }
 
   -- a grant, after which the sheet may be in another state
   pub granted_to : (next : State) (q : Parts E) (vs : List ℕ) → Stands admits shown p → Stands admits shown q → Hold (checks (book admits shown state p) call) →
-      Becomes (book admits shown state p) call (book admits shown next q) → Tells (book admits shown state p) call (granted vs) → Moved admits shown state p call (granted vs) next q
-  granted_to next q vs sp sq h b t = record {
+      Becomes (book admits shown state p) call (book admits shown next q) → Tells (book admits shown state p) call (granted vs) → ActsAsPromised admits shown state p call (granted vs) next q
+  granted_to next q vs sp sq h b t = as_promised admits shown law record {
     stands = λ _. sq;
     follows = λ _. judged_granted (λ _. book admits shown state p) (Becomes (book admits shown state p) call) (checks (book admits shown state p) call) _ h b;
     answered = λ _. judged_granted (λ x. refused x []) (Tells (book admits shown state p) call) (checks (book admits shown state p) call) _ h t;
-    unmade = λ none. absurd (none sp);
-    kept = λ r us e. let z : ◌≡◌ {A = ℕ} 0 1 = cc in absurd (omega arith);
+    refused_by_8 = λ none. absurd (none sp);
+    refused_alters_nothing = λ r us e. let z : ◌≡◌ {A = ℕ} 0 1 = cc in absurd (omega arith);
   }
 
   pub granted_by : (q : Parts E) (vs : List ℕ) → Stands admits shown p → Stands admits shown q → Hold (checks (book admits shown state p) call) →
-      Becomes (book admits shown state p) call (book admits shown state q) → Tells (book admits shown state p) call (granted vs) → Performed admits shown state p call (granted vs) q
+      Becomes (book admits shown state p) call (book admits shown state q) → Tells (book admits shown state p) call (granted vs) → ActsAsPromised admits shown state p call (granted vs) state q
   granted_by = granted_to state
 
   -- every check holds, and the book stays, whatever is told
   pub kept_by : (told : Answer) → Stands admits shown p → Hold (checks (book admits shown state p) call) →
-      Becomes (book admits shown state p) call (book admits shown state p) → Tells (book admits shown state p) call told → Performed admits shown state p call told p
-  kept_by told sp h b t = record {
+      Becomes (book admits shown state p) call (book admits shown state p) → Tells (book admits shown state p) call told → ActsAsPromised admits shown state p call told state p
+  kept_by told sp h b t = as_promised admits shown law record {
     stands = λ s. s;
     follows = λ _. judged_granted (λ _. book admits shown state p) (Becomes (book admits shown state p) call) (checks (book admits shown state p) call) _ h b;
     answered = λ _. judged_granted (λ x. refused x []) (Tells (book admits shown state p) call) (checks (book admits shown state p) call) _ h t;
-    unmade = λ none. absurd (none sp);
-    kept = λ _ _ _. (refl, refl);
+    refused_by_8 = λ none. absurd (none sp);
+    refused_alters_nothing = λ _ _ _. (refl, refl);
   }
 
 module _ {E : Type 0} (admits : ℕ → Bool) (shown : E → Shown) (p q : Parts E) (st : Stands admits shown p) where
@@ -79,7 +95,7 @@ module _ {E : Type 0} (admits : ℕ → Bool) (shown : E → Shown) (p q : Parts
   pub inserted : (e : E) → Fit admits p.header.variables (shown e) → (Has (take p.header.rows (map shown (vec_items p.table))) (shown e) → ⊥) → p.header.rows < vec_len p.table →
       vec_items q.table ≡ set (vec_items p.table) p.header.rows e → vec_len q.table ≡ vec_len p.table → vec_items q.order ≡ vec_items p.order →
       q.header.variables ≡ p.header.variables → q.header.rows ≡ p.header.rows + 1 →
-      Performed admits shown opened p (insert (shown e)) (granted (p.header.rows ∷ [])) q
+      ActsAsPromised admits shown opened p (insert (shown e)) (granted (p.header.rows ∷ [])) opened q
   inserted e fit new room items len order n count =
       let table = map shown xs in
       let k : vec_len p.table ≡ length xs = p.table.ok.0 in
@@ -88,7 +104,7 @@ module _ {E : Type 0} (admits : ℕ → Bool) (shown : E → Shown) (p q : Parts
       let same : map shown (vec_items q.table) ≡ set table p.header.rows (shown e) = ap (map shown) items ∙ map-set shown xs p.header.rows e in
       let long : length (set table p.header.rows (shown e)) ≡ length table = length-set table p.header.rows (shown e) in
       let told : length (take p.header.rows table) ≡ p.header.rows = length-take-le p.header.rows table st.room in
-      granted_by admits shown opened p (insert (shown e)) q (p.header.rows ∷ []) st
+      granted_by admits shown opened p (insert (shown e)) tt q (p.header.rows ∷ []) st
       (makes_at admits opened n count same order record {
         variables = st.variables;
         places = record { some = omega (arith, st.places.some); most = omega (arith, st.places.most) };
@@ -105,7 +121,7 @@ module _ {E : Type 0} (admits : ℕ → Bool) (shown : E → Shown) (p q : Parts
   pub withdrawn : (e b : E) (place : ℕ) → Fit admits p.header.variables (shown e) → place < p.header.rows → row (map shown (vec_items p.table)) place ≡ shown e → shown b ≡ blank →
       vec_items q.table ≡ remove (vec_items p.table) place ++ b ∷ [] → vec_len q.table ≡ vec_len p.table → vec_items q.order ≡ vec_items p.order →
       q.header.variables ≡ p.header.variables → q.header.rows ≡ p.header.rows - 1 →
-      Performed admits shown opened p (withdraw (shown e)) (granted []) q
+      ActsAsPromised admits shown opened p (withdraw (shown e)) (granted []) opened q
   withdrawn e b place fit within here bare items len order n count =
       let table = map shown xs in
       let rows = take p.header.rows table in
@@ -116,7 +132,7 @@ module _ {E : Type 0} (admits : ℕ → Bool) (shown : E → Shown) (p q : Parts
       ap (map shown) items ∙ map-append shown (remove xs place) (b ∷ []) ∙
       ap (λ t. t ++ shown b ∷ []) (map-append shown (take place xs) (drop (suc place) xs)) ∙
       rw (bare, take-map, drop-map) in
-      granted_by admits shown opened p (withdraw (shown e)) q [] st
+      granted_by admits shown opened p (withdraw (shown e)) tt q [] st
       (makes_at admits opened n count same order record {
         variables = st.variables;
         places = record { some = omega (arith, st.places.some); most = omega (arith, st.places.most) };
@@ -156,6 +172,14 @@ opened_by admits shown q n places count room len blanks order variables rows =
       },
       bound_path admits opened variables len (rw rows) order,
     )
+
+-- with the fresh book a history begins
+pub once_opened_by : {E : Type 0} (admits : ℕ → Bool) (shown : E → Shown) (q : Parts E) (n places : ℕ) → VariableCount n → PlaceCount places →
+    Stands admits shown q → book admits shown opened q ≡ fresh admits n places → IsAsPromised admits shown (just_opened n places) opened q
+once_opened_by admits shown q n places count room st same =
+    let reached : OpenedThenWentThrough admits (just_opened n places) (book admits shown opened q) =
+    record { variable_count = count; place_count = room; lawful = tt; run = subst (λ (b : Book). Run (fresh admits n places) [] [] b) (sym same) over } in
+    record { equals_the_plain_book = record { stands = st; reached = reached }; holds_after_every_call = holds_after_every_call reached }
 
 -- a bar as the code tells it
 pub bar_is_told : (rows : List Shown) (order : List ℕ) (u : Shown) (v number : ℕ) (star : Bool) → number ≡ bar_number rows order u v → Decides star (Star rows order u v) →

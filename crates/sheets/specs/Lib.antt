@@ -1,3 +1,4 @@
 pub mod Sheet
 pub mod Book
+pub mod History
 pub mod Read

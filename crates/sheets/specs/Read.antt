@@ -1,15 +1,18 @@
 -- How the parts of a sheet are read, and what a call on them comes to. Assumes nothing.
-use Rattle.std.specs.Prelude.{◌≡◌, ℕ, Bool, cond, List, [], ◌∷◌, map, take, Ok, Err, vec_items, vec_len, Result, MatchResult}
+use Rattle.std.specs.Prelude.{◌≡◌, ℕ, Bool, cond, List, [], ◌∷◌, map, take, IfOk, Ok, Err, vec_items, vec_len, Result, MatchResult}
 use Rattle.elements.specs.Element.{Shown}
 use Rattle.orderings.specs.Answer.{Answer, granted, refused, refusal, Answers}
+use Rattle.divisions.specs.Laws.{Meaning}
 use Rattle.sheets.specs.declared.parts.Parts.{Parts}
 use Rattle.sheets.specs.declared.parts.OpenSheet.{OpenSheet}
+use Rattle.sheets.specs.declared.parts.SettledSheet.{SettledSheet}
 use Rattle.sheets.specs.declared.parts.Denied.{Denied}
 use Rattle.sheets.specs.declared.parts.Bar.{Bar}
 use Rattle.sheets.specs.declared.parts.Verdict.{Verdict}
 use Rattle.sheets.specs.declared.parts.Served.{Served}
 use Rattle.sheets.specs.Sheet.{Makes}
-use Rattle.sheets.specs.Book.{Book, State, opened, Call, Follows, Answered, element_told, fresh, open_asks}
+use Rattle.sheets.specs.Book.{Book, State, opened, settled_by, Call, Follows, Answered, element_told, fresh, open_asks}
+use Rattle.sheets.specs.History.{History, just_opened, and_then, OpenedThenWentThrough, HoldsAfterEveryCall}
 
 -- bar's values
 abbrev pub bar_told : Bar → List ℕ
@@ -22,6 +25,14 @@ verdict_told shown v = cond v.complete 1 0 ∷ v.place ∷ v.variable ∷ v.powe
 -- the values of a settling
 abbrev pub served_told : Served → List ℕ
 served_told s = s.tested ∷ s.ordering
+
+-- the division by which a sheet was settled
+abbrev pub settled_division : {E D : Type 0} → SettledSheet E D → D
+settled_division s = s.division
+
+-- the state of a settled sheet
+abbrev pub settled_state : {E D : Type 0} → (D → Meaning) → SettledSheet E D → State
+settled_state meaning s = settled_by (meaning (settled_division s))
 
 -- what a call that gives its sheet back comes to: the answer, and the state and parts after it
 module _ {X Y : Type 0} where
@@ -55,21 +66,56 @@ module _ {E : Type 0} (admits : ℕ → Bool) (shown : E → Shown) where
       (state : State) (p q : Parts E) → Stands p → Stands q → book state p ≡ book state q →
       (vec_items p.table ≡ vec_items q.table) × (vec_items p.order ≡ vec_items q.order) × (p.header ≡ q.header)
 
-  -- a call on parts in a state, and the parts and state after it: where they make a sheet it is a step of the book, and else 8; what is refused alters nothing
-  pub record Moved (state : State) (before : Parts E) (call : Call) (told : Answer) (next : State) (after : Parts E) : Type 0 where
-    pub stands : Stands before → Stands after
-    pub follows : Stands before → Follows (book state before) call (book next after)
-    pub answered : Stands before → Answered (book state before) call told
-    pub unmade : (Stands before → ⊥) → told ≡ refused 8 []
-    pub kept : (r : ℕ) (vs : List ℕ) → told ≡ refused r vs → (next ≡ state) × (after ≡ before)
+  -- after a history the parts, in a state, equal the plain book: they make a sheet, and their
+  -- rows by place, their ordering, the state and with it the division are those of the book that
+  -- went through it
+  pub record EqualsThePlainBook (h : History) (state : State) (parts : Parts E) : Type 0 where
+    pub stands : Stands parts
+    pub reached : OpenedThenWentThrough admits h (book state parts)
 
-  -- a call that stays in its state
-  abbrev pub Performed : State → Parts E → Call → Answer → Parts E → Type 0
-  Performed state before call told after = Moved state before call told state after
+  -- and all holds that is promised of that book
+  pub record IsAsPromised (h : History) (state : State) (parts : Parts E) : Type 0 where
+    pub equals_the_plain_book : EqualsThePlainBook h state parts
+    pub holds_after_every_call : HoldsAfterEveryCall admits h (book state parts)
 
-  -- open: the answer, the fresh book where it is granted, and the parts as they were where it is refused
-  pub record Opens (before : Parts E) (result : Result (OpenSheet E) (Denied (Parts E))) : Type 0 where
-    pub answered : Answers (open_asks before.header.variables (vec_len before.table) (vec_len before.order)) (λ a. a ≡ granted []) (moved_answer (λ _. []) result)
+  module _ (state : State) (before : Parts E) (call : Call) (told : Answer)
+      (next : State) (after : Parts E) where
+    -- a call on any parts, in a state, with the answer and the state and parts after it: where
+    -- they make a sheet it is a step of the book, and else 8; what is refused alters nothing
+    pub record FollowsThePlainBook : Type 0 where
+      pub stands : Stands before → Stands after
+      pub follows : Stands before → Follows (book state before) call (book next after)
+      pub answered : Stands before → Answered (book state before) call told
+      pub refused_by_8 : (Stands before → ⊥) → told ≡ refused 8 []
+      pub refused_alters_nothing :
+          (r : ℕ) (vs : List ℕ) → told ≡ refused r vs → (next ≡ state) × (after ≡ before)
+
+    -- whichever history led to the parts, after this call too they are as promised
+    abbrev pub EqualsThePlainBookAfterEveryCall : Type 0
+    EqualsThePlainBookAfterEveryCall =
+        (h : History) → EqualsThePlainBook h state before →
+        IsAsPromised (and_then h call told) next after
+
+    -- what every call on a sheet keeps
+    pub record ActsAsPromised : Type 0 where
+      pub follows_the_plain_book : FollowsThePlainBook
+      pub after_every_call : EqualsThePlainBookAfterEveryCall
+
+  -- a call that leaves an open sheet open
+  abbrev pub StaysOpenAsPromised : OpenSheet E → Call → Answer → OpenSheet E → Type 0
+  StaysOpenAsPromised before call told after =
+      ActsAsPromised opened before.parts call told opened after.parts
+
+  -- what open keeps: it is refused by 5, 6 or 7 with the parts as they were, or gives the fresh
+  -- book, with which a history begins
+  pub record OpensAsPromised (before : Parts E) (result : Result (OpenSheet E) (Denied (Parts E))) :
+      Type 0 where
+    pub answered :
+        Answers (open_asks before.header.variables (vec_len before.table) (vec_len before.order))
+        (λ a. a ≡ granted []) (moved_answer (λ _. []) result)
     pub outcome : MatchResult result
         (λ s. Stands s.parts × (book opened s.parts ≡ fresh admits before.header.variables (vec_len before.table)))
         (λ d. d.back ≡ before)
+    pub once_opened : IfOk result
+        (λ s. IsAsPromised (just_opened before.header.variables (vec_len before.table))
+        opened s.parts)

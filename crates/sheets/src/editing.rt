@@ -1,8 +1,8 @@
 // The calls that change an open sheet.
 ghost use Rattle.std.specs.Prelude.{[], ◌∷◌};
 ghost use Rattle.orderings.specs.Answer.{answer};
-ghost use Rattle.sheets.specs.Book.{opened, insert as to_insert, withdraw as to_withdraw, arrange as to_arrange};
-ghost use Rattle.sheets.specs.Read.{Performed};
+ghost use Rattle.sheets.specs.Book.{insert as to_insert, withdraw as to_withdraw, arrange as to_arrange};
+ghost use Rattle.sheets.specs.Read.{StaysOpenAsPromised};
 
 use crate::judging::*;
 use crate::parts::*;
@@ -14,7 +14,9 @@ use orderings::refusals::Refusal;
 impl<E: Element> OpenSheet<E> {
     // Puts the element after the last row, and gives its place.
     pub fn insert(&mut self, element: E) -> Result<usize, Refusal>
-        ensures { Performed E.Element.admitted E.Element.shown opened self.old.parts (to_insert (E.Element.shown element)) (answer (λ p. p ∷ []) result) self.new.parts }
+        ensures { let call = to_insert (E.shown element) in
+            let told = answer (λ p. p ∷ []) result in
+            StaysOpenAsPromised E.admitted E.shown self.old call told self.new }
     {
         let sheet = Standing::of(&self.parts)?;
         if !is_fit(&element, self.parts.header.variables) {
@@ -34,7 +36,9 @@ impl<E: Element> OpenSheet<E> {
 
     // Takes the element out of the rows: each later row moves down one place, and a blank follows the last.
     pub fn withdraw(&mut self, element: &E) -> Result<(), Refusal>
-        ensures { Performed E.Element.admitted E.Element.shown opened self.old.parts (to_withdraw (E.Element.shown element.now)) (answer (λ _. []) result) self.new.parts }
+        ensures { let call = to_withdraw (E.shown element.now) in
+            let told = answer (λ _. []) result in
+            StaysOpenAsPromised E.admitted E.shown self.old call told self.new }
     {
         let sheet = Standing::of(&self.parts)?;
         if !is_fit(element, self.parts.header.variables) {
@@ -52,7 +56,9 @@ impl<E: Element> OpenSheet<E> {
 
     // Makes the list the sheet's ordering.
     pub fn arrange(&mut self, list: &[u8]) -> Result<(), Refusal>
-        ensures { Performed E.Element.admitted E.Element.shown opened self.old.parts (to_arrange list.now) (answer (λ _. []) result) self.new.parts }
+        ensures { let call = to_arrange list.now in
+            let told = answer (λ _. []) result in
+            StaysOpenAsPromised E.admitted E.shown self.old call told self.new }
     {
         let _ = Standing::of(&self.parts)?;
         if !is_ordering(list, self.parts.header.variables) {

@@ -1,8 +1,8 @@
 // The calls on a settled sheet.
 ghost use Rattle.std.specs.Prelude.{◌≡◌, [], ◌∷◌, IfErr};
 ghost use Rattle.orderings.specs.Answer.{answer};
-ghost use Rattle.sheets.specs.Book.{opened, settled_by, locate as to_locate, reopen as to_reopen};
-ghost use Rattle.sheets.specs.Read.{Performed, Moved, moved_answer, moved};
+ghost use Rattle.sheets.specs.Book.{opened, locate as to_locate, reopen as to_reopen};
+ghost use Rattle.sheets.specs.Read.{ActsAsPromised, moved_answer, moved, settled_division, settled_state};
 
 use crate::judging::*;
 use crate::parts::*;
@@ -14,9 +14,19 @@ use orderings::fitting::is_admitted;
 use orderings::refusals::Refusal;
 
 impl<E: Element, D: Division> SettledSheet<E, D> {
+    // The division by which the sheet was settled.
+    pub fn division(&self) -> &D
+        ensures { result.now ≡ settled_division self.now }
+    {
+        &self.division
+    }
+
     // The place of the row whose cone holds the element.
     pub fn locate(&self, element: &E) -> Result<usize, Refusal>
-        ensures { Performed E.Element.admitted E.Element.shown (settled_by (D.Division.meaning self.now.division)) self.now.parts (to_locate (E.Element.shown element.now)) (answer (λ p. p ∷ []) result) self.now.parts }
+        ensures { let state = settled_state D.meaning self.now in
+            let call = to_locate (E.shown element.now) in
+            let told = answer (λ p. p ∷ []) result in
+            ActsAsPromised E.admitted E.shown state self.now.parts call told state self.now.parts }
     {
         let sheet = Standing::of(&self.parts)?;
         let n = self.parts.header.variables;
@@ -37,7 +47,11 @@ impl<E: Element, D: Division> SettledSheet<E, D> {
 
     // Gives the open sheet back, unaltered.
     pub fn reopen(self) -> Result<OpenSheet<E>, Denied<SettledSheet<E, D>>>
-        ensures step { Moved E.Element.admitted E.Element.shown (settled_by (D.Division.meaning self.division)) self.parts to_reopen (moved_answer (λ _. []) result) (moved (λ s. settled_by (D.Division.meaning s.division)) (λ _. opened) result) (moved (λ s. s.parts) (λ s. s.parts) result) }
+        ensures step { let state = settled_state D.meaning self in
+            let told = moved_answer (λ _. []) result in
+            let next = moved (settled_state D.meaning) (λ _. opened) result in
+            let after = moved (λ s. s.parts) (λ s. s.parts) result in
+            ActsAsPromised E.admitted E.shown state self.parts to_reopen told next after }
         ensures back { IfErr result (λ d. d.back ≡ self) }
     {
         match Standing::of(&self.parts) {

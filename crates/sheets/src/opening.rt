@@ -5,7 +5,7 @@ ghost use Rattle.elements.specs.Element.{blank as nothing};
 ghost use Rattle.orderings.specs.Rows.{row as place};
 ghost use Rattle.sheets.specs.Sheet.{natural_order as natural};
 ghost use Rattle.sheets.specs.Book.{open_asks};
-ghost use Rattle.sheets.specs.Read.{Opens};
+ghost use Rattle.sheets.specs.Read.{OpensAsPromised};
 
 use crate::judging::*;
 use crate::parts::*;
@@ -74,7 +74,7 @@ fn openable<E: Element>(parts: &Parts<E>) -> Result<(), Refusal>
 
 // Opens a sheet over the parts: no rows, every place blank, the ordering 1 to n. The header says how many variables.
 pub fn open<E: Element>(parts: Parts<E>) -> Result<OpenSheet<E>, Denied<Parts<E>>>
-    ensures { Opens E.Element.admitted E.Element.shown parts result }
+    ensures { OpensAsPromised E.admitted E.shown parts result }
 {
     match openable(&parts) {
         Err(why) => Err(Denied { back: parts, why }),

@@ -27,7 +27,7 @@ pub struct OpenSheet<E> {
 #[derive(Drop)]
 pub struct SettledSheet<E, D> {
     pub parts: Parts<E>,
-    pub division: D,
+    pub(crate) division: D,
 }
 
 // The ordering that was found to serve, and how many prefixes were tested for it.

@@ -1,8 +1,8 @@
 // The calls that tell bars and limits of an open sheet, and write nothing.
 ghost use Rattle.std.specs.Prelude.{[], ◌∷◌};
 ghost use Rattle.orderings.specs.Answer.{answer};
-ghost use Rattle.sheets.specs.Book.{opened, limit_told, bar as to_bar, limit as to_limit};
-ghost use Rattle.sheets.specs.Read.{Performed, bar_told};
+ghost use Rattle.sheets.specs.Book.{limit_told, bar as to_bar, limit as to_limit};
+ghost use Rattle.sheets.specs.Read.{StaysOpenAsPromised, bar_told};
 
 use crate::judging::*;
 use crate::parts::*;
@@ -13,7 +13,9 @@ use orderings::refusals::Refusal;
 impl<E: Element> OpenSheet<E> {
     // The bar of a variable under the row of a place.
     pub fn bar(&self, place: usize, variable: u8) -> Result<Bar, Refusal>
-        ensures { Performed E.Element.admitted E.Element.shown opened self.now.parts (to_bar place variable) (answer bar_told result) self.now.parts }
+        ensures { let call = to_bar place variable in
+            let told = answer bar_told result in
+            StaysOpenAsPromised E.admitted E.shown self.now call told self.now }
     {
         let sheet = Standing::of(&self.parts)?;
         if !sheet.has_bar(place, variable) {
@@ -33,7 +35,9 @@ impl<E: Element> OpenSheet<E> {
         place: usize,
         variable: u8,
     ) -> Result<Option<u16>, Refusal>
-        ensures { Performed E.Element.admitted E.Element.shown opened self.now.parts (to_limit (D.Division.meaning division.now) place variable) (answer limit_told result) self.now.parts }
+        ensures { let call = to_limit (D.meaning division.now) place variable in
+            let told = answer limit_told result in
+            StaysOpenAsPromised E.admitted E.shown self.now call told self.now }
     {
         let sheet = Standing::of(&self.parts)?;
         if !sheet.has_bar(place, variable) {

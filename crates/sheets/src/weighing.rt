@@ -2,8 +2,8 @@
 ghost use Rattle.std.specs.Prelude.{◌≤◌, map, take};
 ghost use Rattle.orderings.specs.Answer.{answer, granted};
 ghost use Rattle.orderings.specs.Order.{IsOrdering};
-ghost use Rattle.sheets.specs.Book.{opened, TellsVerdict, verdict as to_verdict, weigh as to_weigh};
-ghost use Rattle.sheets.specs.Read.{Performed, verdict_told};
+ghost use Rattle.sheets.specs.Book.{TellsVerdict, verdict as to_verdict, weigh as to_weigh};
+ghost use Rattle.sheets.specs.Read.{StaysOpenAsPromised, verdict_told};
 
 use crate::judging::*;
 use crate::parts::*;
@@ -57,7 +57,9 @@ impl<E: Element> Standing<'_, E> {
 impl<E: Element> OpenSheet<E> {
     // Whether the rows are complete by a division under the sheet's ordering.
     pub fn verdict<D: Division>(&self, division: &D) -> Result<Verdict<E>, Refusal>
-        ensures { Performed E.Element.admitted E.Element.shown opened self.now.parts (to_verdict (D.Division.meaning division.now)) (answer (verdict_told E.Element.shown) result) self.now.parts }
+        ensures { let call = to_verdict (D.meaning division.now) in
+            let told = answer (verdict_told E.shown) result in
+            StaysOpenAsPromised E.admitted E.shown self.now call told self.now }
     {
         let sheet = Standing::of(&self.parts)?;
         if self.parts.header.rows < 1 {
@@ -68,7 +70,9 @@ impl<E: Element> OpenSheet<E> {
 
     // Whether the rows are complete by a division under an ordering that is handed in.
     pub fn weigh<D: Division>(&self, division: &D, list: &[u8]) -> Result<Verdict<E>, Refusal>
-        ensures { Performed E.Element.admitted E.Element.shown opened self.now.parts (to_weigh (D.Division.meaning division.now) list.now) (answer (verdict_told E.Element.shown) result) self.now.parts }
+        ensures { let call = to_weigh (D.meaning division.now) list.now in
+            let told = answer (verdict_told E.shown) result in
+            StaysOpenAsPromised E.admitted E.shown self.now call told self.now }
     {
         let sheet = Standing::of(&self.parts)?;
         if !is_ordering(list, self.parts.header.variables) {

@@ -1,7 +1,7 @@
-use Rattle.std.proofs.Common.{map, vec_items, sym, refl, ◌∙◌, inl, inr, arith}
+use Rattle.std.proofs.Common.{rules, map, vec_items, sym, refl, ◌∙◌, inl, inr, arith}
 use Rattle.sheets.specs.Book.{opened, insert as to_insert}
 use Rattle.sheets.proofs.Rows.{has_from, none_from}
-use Rattle.sheets.proofs.Steps.{inserted, refused_by}
+use Rattle.sheets.proofs.Steps.{as_promised, inserted, refused_by}
 use Rattle.sheets.proofs.parts.OpenSheet.insert.Goals as goal
 
 pub returns-then-is_some : goal.returns-then-is_some
@@ -10,7 +10,7 @@ returns-then-is_some g c =
     let p = c.args.self.now.parts in
     let shown = g.E.Element.shown in
     let found = rw same at c.place_of.ensures in
-    refused_by g.E.Element.admitted shown opened p (to_insert (shown c.args.element)) 13 st
+    refused_by g.E.Element.admitted shown opened p (to_insert (shown c.args.element)) tt 13 st
     (inr (
       tt,
       inr (
@@ -31,3 +31,9 @@ returns g c =
     inserted g.E.Element.admitted shown p _ st c.args.element (c.if-not-is_fit.ensures.0 refl)
     (none_from (map shown (vec_items p.table)) p.header.rows (shown c.args.element) st.room c.place_of.result found (sym c.is_some.ensures ∙ c.if-is_some.false))
     (omega (arith, c.if-count-len.false, c.len.ensures)) refl refl refl refl refl
+
+pub returns-then-not-is_fit : goal.returns-then-not-is_fit
+returns-then-not-is_fit g c = as_promised g.E.Element.admitted g.E.Element.shown tt (search rules)
+
+pub returns-then-count-len : goal.returns-then-count-len
+returns-then-count-len g c = as_promised g.E.Element.admitted g.E.Element.shown tt (search rules)
