@@ -1,21 +1,20 @@
 -- How requests, replies and sheets of either state are read as calls, answers and books. Assumes nothing.
-use Rattle.std.specs.Prelude.{◌≡◌, ℕ, Bool, List, [], ◌∷◌, map, Some, None, Ok, Err, vec_items, vec_len, Option, Result}
+use Rattle.std.specs.Prelude.{◌≡◌, ℕ, Bool, List, [], ◌∷◌, map, Some, None, Ok, Err, vec_len, Option, Result}
 use Rattle.elements.specs.Element.{Shown}
 use Rattle.orderings.specs.Answer.{Answer, granted, refused, refusal, Answers}
 use Rattle.divisions.specs.Laws.{Meaning}
 use Rattle.sheets.specs.declared.parts.Parts.{Parts}
-use Rattle.sheets.specs.Book.{Book, State, opened, settled_by, Call, insert, withdraw, arrange, bar, limit, verdict, weigh, settle, locate, reopen, limit_told, Takes, Follows, Answered, fresh, open_asks}
-use Rattle.sheets.specs.Read.{Stands, book, Opens, bar_told, verdict_told, served_told}
-use Rattle.runs.specs.declared.replaying.Replayed.{Replayed}
-use Rattle.runs.specs.declared.replaying.NotReplayed.{NotReplayed}
-use Rattle.runs.specs.declared.replaying.NotReplayed.TheVariants.{Unopened, OutOfMemory}
-use Rattle.runs.specs.Runs.{Run, Sound, RunLaw}
+use Rattle.sheets.specs.declared.parts.Denied.{Denied}
+use Rattle.sheets.specs.Book.{Book, State, opened, Call, insert, withdraw, arrange, bar, limit, verdict, weigh, settle, locate, reopen, limit_told, Takes, Follows, Answered, open_asks}
+use Rattle.sheets.specs.History.{History, just_opened}
+use Rattle.sheets.specs.Read.{Stands, book, EqualsThePlainBook, IsAsPromised, EqualsThePlainBookAfterEveryCall, OpensAsPromised, bar_told, verdict_told, served_told, settled_state}
 use Rattle.runs.specs.declared.requests.Request.{Request}
 use Rattle.runs.specs.declared.requests.Request.TheVariants.{Insert, Withdraw, Arrange, Bar, Limit, Verdict, Weigh, Settle, Locate, Reopen}
 use Rattle.runs.specs.declared.requests.Grant.{Grant}
 use Rattle.runs.specs.declared.requests.Grant.TheVariants.{Done, Place, Settled as Found, Bar as TellBar, Limit as TellLimit, Verdict as TellVerdict}
 use Rattle.runs.specs.declared.requests.NotGranted.{NotGranted}
 use Rattle.runs.specs.declared.requests.NotGranted.TheVariants.{NotTaken, Refused}
+use Rattle.runs.specs.declared.requests.Exchange.{Exchange}
 use Rattle.runs.specs.declared.requests.Sheet.{Sheet}
 use Rattle.runs.specs.declared.requests.Sheet.TheVariants.{Open, Settled}
 
@@ -30,7 +29,7 @@ parts_of (Settled s) = s.parts
 
 abbrev pub state_of : {E D : Type 0} → (D → Meaning) → Sheet E D → State
 state_of meaning (Open s) = opened
-state_of meaning (Settled s) = settled_by (meaning s.division)
+state_of meaning (Settled s) = settled_state meaning s
 
 module _ {E : Type 0} (shown : E → Shown) where
   abbrev pub call_of : {D : Type 0} → (D → Meaning) → Request E D → Call
@@ -93,47 +92,106 @@ asked_form (settle d) = settles
 asked_form (locate e) = place
 asked_form reopen = done
 
-module _ {E D : Type 0} (shown : E → Shown) (meaning : D → Meaning) where
-  -- a granted reply has the form of its call
-  abbrev pub HasItsForm : Request E D → Reply E → Type 0
-  HasItsForm request reply = (f : Form) → form_of reply ≡ Some f → f ≡ asked_form (call_of shown meaning request)
+-- a granted reply has the form of its call
+abbrev pub HasItsForm :
+    {E D : Type 0} → (E → Shown) → (D → Meaning) → Request E D → Reply E → Type 0
+HasItsForm shown meaning request reply =
+    (f : Form) → form_of reply ≡ Some f → f ≡ asked_form (call_of shown meaning request)
 
-  -- so has each of a list of replies
-  abbrev pub HaveTheirForms : List (Request E D) → List (Reply E) → Type 0
-  HaveTheirForms [] [] = Unit {0}
-  HaveTheirForms [] (reply ∷ replies) = ⊥
-  HaveTheirForms (request ∷ requests) [] = ⊥
-  HaveTheirForms (request ∷ requests) (reply ∷ replies) = HasItsForm request reply × HaveTheirForms requests replies
+module _ {E D : Type 0} (shown : E → Shown) (meaning : D → Meaning) where
+  -- a call is replied to at its place: the answer is told, in the form of the call
+  pub record IsReplied (exchange : Exchange E D) (told : Answer) : Type 0 where
+    pub reply : Reply E
+    pub written : exchange.reply ≡ Some reply
+    pub tells : answer_of shown reply ≡ told
+    pub has_its_form : HasItsForm shown meaning exchange.request reply
+
+  -- so is each of a list of calls
+  abbrev pub AreReplied : List (Exchange E D) → List Answer → Type 0
+  AreReplied [] [] = Unit {0}
+  AreReplied [] (told ∷ answers) = ⊥
+  AreReplied (exchange ∷ exchanges) [] = ⊥
+  AreReplied (exchange ∷ exchanges) (told ∷ answers) =
+      IsReplied exchange told × AreReplied exchanges answers
 
 module _ {E D : Type 0} (admits : ℕ → Bool) (shown : E → Shown) (meaning : D → Meaning) where
   abbrev pub book_of : Sheet E D → Book
   book_of s = book admits shown (state_of meaning s) (parts_of s)
 
-  -- one call on a sheet: a step of the book where the parts make a sheet, 3 where the state does not take the call, and else 8;
-  -- what is refused alters nothing
-  pub record Stepped (before : Sheet E D) (request : Request E D) (after : Sheet E D) (reply : Reply E) : Type 0 where
+  -- one call on any sheet, whatever its parts: where they make a sheet it is a step of the book;
+  -- 3 where the state does not take the call, and else 8; what is refused alters nothing
+  pub record StepFollowsThePlainBook (before : Sheet E D) (request : Request E D)
+      (after : Sheet E D) (reply : Reply E) : Type 0 where
     pub stands : Stands admits shown (parts_of before) → Stands admits shown (parts_of after)
-    pub follows : Stands admits shown (parts_of before) → Follows (book_of before) (call_of shown meaning request) (book_of after)
-    pub answered : Stands admits shown (parts_of before) → Answered (book_of before) (call_of shown meaning request) (answer_of shown reply)
-    pub untaken : (Takes (state_of meaning before) (call_of shown meaning request) → ⊥) → answer_of shown reply ≡ refused 3 []
-    pub unmade : Takes (state_of meaning before) (call_of shown meaning request) → (Stands admits shown (parts_of before) → ⊥) → answer_of shown reply ≡ refused 8 []
-    pub kept : (r : ℕ) (vs : List ℕ) → answer_of shown reply ≡ refused r vs → after ≡ before
-    -- a granted reply has the form of its call
-    pub form : (f : Form) → form_of reply ≡ Some f → f ≡ asked_form (call_of shown meaning request)
-    -- from a sound book: the law over the run of this one call
-    pub law : Stands admits shown (parts_of before) → Sound (book_of before) → RunLaw (book_of before) (call_of shown meaning request ∷ []) (answer_of shown reply ∷ []) (book_of after)
+    pub follows :
+        Stands admits shown (parts_of before) →
+        Follows (book_of before) (call_of shown meaning request) (book_of after)
+    pub answered :
+        Stands admits shown (parts_of before) →
+        Answered (book_of before) (call_of shown meaning request) (answer_of shown reply)
+    pub refused_by_3 :
+        (Takes (state_of meaning before) (call_of shown meaning request) → ⊥) →
+        answer_of shown reply ≡ refused 3 []
+    pub refused_by_8 :
+        Takes (state_of meaning before) (call_of shown meaning request) →
+        (Stands admits shown (parts_of before) → ⊥) →
+        answer_of shown reply ≡ refused 8 []
+    pub refused_alters_nothing :
+        (r : ℕ) (vs : List ℕ) → answer_of shown reply ≡ refused r vs → after ≡ before
+    pub has_its_form : HasItsForm shown meaning request reply
 
-  -- calls on a sheet that is opened for them, with the sheet at the end and the replies: the run of the book from a fresh one, the only run of these calls;
-  -- the book at its end is that of the sheet, and keeps the law
-  pub record Ran (before : Parts E) (calls : List (Request E D)) (sheet : Sheet E D) (replies : List (Reply E)) : Type 0 where
-    pub opens : Answers (open_asks before.header.variables (vec_len before.table) (vec_len before.order)) (λ a. a ≡ granted []) (granted [])
-    pub stands : Stands admits shown (parts_of sheet)
-    pub run : Run (fresh admits before.header.variables (vec_len before.table)) (map (call_of shown meaning) calls) (map (answer_of shown) replies) (book_of sheet)
-    pub law : RunLaw (fresh admits before.header.variables (vec_len before.table)) (map (call_of shown meaning) calls) (map (answer_of shown) replies) (book_of sheet)
-    pub forms : HaveTheirForms shown meaning calls replies
+  -- after a history the sheet equals the plain book
+  abbrev pub SheetEqualsThePlainBook : History → Sheet E D → Type 0
+  SheetEqualsThePlainBook h sheet =
+      EqualsThePlainBook admits shown h (state_of meaning sheet) (parts_of sheet)
 
-  -- what a list of calls came to: they ran, or the opening was refused, or memory ran out
-  abbrev pub Replays : Parts E → List (Request E D) → Result (Replayed E D) (NotReplayed E) → Type 0
-  Replays before calls (Ok r) = Ran before calls r.sheet (vec_items r.replies)
-  Replays before calls (Err (Unopened denied)) = Opens admits shown before (Err denied)
-  Replays before calls (Err OutOfMemory) = Unit {0}
+  -- and is as promised
+  abbrev pub SheetIsAsPromised : History → Sheet E D → Type 0
+  SheetIsAsPromised h sheet = IsAsPromised admits shown h (state_of meaning sheet) (parts_of sheet)
+
+  -- whichever history led to a sheet, after one call more it is as promised
+  abbrev pub StepEqualsThePlainBookAfterEveryCall :
+      Sheet E D → Request E D → Sheet E D → Reply E → Type 0
+  StepEqualsThePlainBookAfterEveryCall before request after reply =
+      EqualsThePlainBookAfterEveryCall admits shown (state_of meaning before) (parts_of before)
+      (call_of shown meaning request) (answer_of shown reply)
+      (state_of meaning after) (parts_of after)
+
+  -- an opening over the parts is granted
+  abbrev pub GrantsOpening : Parts E → Type 0
+  GrantsOpening parts =
+      Answers (open_asks parts.header.variables (vec_len parts.table) (vec_len parts.order))
+      (λ a. a ≡ granted []) (granted [])
+
+  -- a sheet that is opened over the parts is as promised before any call; an opening that is
+  -- refused hands them back
+  abbrev pub BeginsAsPromised : Parts E → Result (Sheet E D) (Denied (Parts E)) → Type 0
+  BeginsAsPromised parts (Ok sheet) =
+      GrantsOpening parts ×
+      SheetIsAsPromised (just_opened parts.header.variables (vec_len parts.table)) sheet
+  BeginsAsPromised parts (Err denied) = OpensAsPromised admits shown parts (Err denied)
+
+  -- calls on a sheet that is opened for them: each is replied to at its place, none is another than
+  -- before, and after all of them the sheet is as promised
+  pub record RepliesToAll (parts : Parts E) (before after : List (Exchange E D))
+      (sheet : Sheet E D) : Type 0 where
+    pub grants_opening : GrantsOpening parts
+    pub same_requests : map (λ x. x.request) after ≡ map (λ x. x.request) before
+    pub answers : List Answer
+    pub are_replied : AreReplied shown meaning after answers
+    pub is_as_promised : SheetIsAsPromised
+        (record {
+          variables = parts.header.variables;
+          places = vec_len parts.table;
+          calls = map (λ x. call_of shown meaning x.request) after;
+          answers = answers;
+        })
+        sheet
+
+  -- every call is replied to, or the opening is refused and nothing is written
+  abbrev pub ReplaysAsPromised :
+      Parts E → List (Exchange E D) → List (Exchange E D) →
+      Result (Sheet E D) (Denied (Parts E)) → Type 0
+  ReplaysAsPromised parts before after (Ok sheet) = RepliesToAll parts before after sheet
+  ReplaysAsPromised parts before after (Err denied) =
+      OpensAsPromised admits shown parts (Err denied) × (after ≡ before)

@@ -1,5 +1,5 @@
 // Calls as values, what is replied to them, and a sheet in either state.
-ghost use Rattle.std.specs.Prelude.{◌≡◌};
+ghost use Rattle.std.specs.Prelude.{◌≡◌, None};
 ghost use Rattle.runs.specs.declared.requests.NotGranted.TheVariants.{Refused};
 
 use orderings::refusals::Refusal;
@@ -50,6 +50,25 @@ impl From<Refusal> for NotGranted {
 
 // What is replied to a call.
 pub type Reply<E> = Result<Grant<E>, NotGranted>;
+
+// A call of a run, with the place for its reply, which is empty until the call is performed.
+#[derive(Clone, Copy, PartialEq, Eq, Debug)]
+pub struct Exchange<'a, E, D> {
+    pub request: Request<'a, E, D>,
+    pub reply: Option<Reply<E>>,
+}
+
+// A call that is not performed yet.
+impl<'a, E, D> From<Request<'a, E, D>> for Exchange<'a, E, D> {
+    ghost from_gives = { λ request x. x ≡ record { request = request; reply = None } };
+
+    fn from(request: Request<'a, E, D>) -> Exchange<'a, E, D> {
+        Exchange {
+            request,
+            reply: None,
+        }
+    }
+}
 
 // A sheet, open or settled.
 #[derive(Drop)]

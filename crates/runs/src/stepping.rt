@@ -1,17 +1,20 @@
-// One call on a sheet.
+// The opening of a sheet, and one call on it.
 ghost use Rattle.std.specs.Prelude.{◌≡◌};
 ghost use Rattle.runs.specs.declared.requests.Request.TheVariants.{Settle};
 ghost use Rattle.runs.specs.declared.requests.Sheet.TheVariants.{Open, Settled};
-ghost use Rattle.runs.specs.Replies.{Stepped};
+ghost use Rattle.runs.specs.Replies.{StepFollowsThePlainBook, BeginsAsPromised, StepEqualsThePlainBookAfterEveryCall};
 
 use crate::requests::*;
 use divisions::Division;
 use elements::Element;
+use sheets::opening::open;
 use sheets::parts::*;
 
 // Asks an open sheet for what leaves it open: every call that it takes but settle.
 fn ask<E: Element, D: Division>(sheet: &mut OpenSheet<E>, request: &Request<E, D>) -> Reply<E>
-    ensures { ((d : D) → request.now ≡ Settle d → ⊥) → Stepped E.Element.admitted E.Element.shown D.Division.meaning (Open sheet.old) request.now (Open sheet.new) result }
+    ensures { ((d : D) → request.now ≡ Settle d → ⊥) →
+        StepFollowsThePlainBook E.admitted E.shown D.meaning
+        (Open sheet.old) request.now (Open sheet.new) result }
 {
     match request {
         Request::Insert(e) => Ok(Grant::Place(sheet.insert(*e)?)),
@@ -38,7 +41,8 @@ fn step_open<E: Element, D: Division>(
     sheet: OpenSheet<E>,
     request: &Request<E, D>,
 ) -> (Sheet<E, D>, Reply<E>)
-    ensures { Stepped E.Element.admitted E.Element.shown D.Division.meaning (Open sheet) request.now result.0 result.1 }
+    ensures { StepFollowsThePlainBook E.admitted E.shown D.meaning
+        (Open sheet) request.now result.0 result.1 }
 {
     let mut sheet = sheet;
     if let Request::Settle(d) = request {
@@ -56,7 +60,8 @@ fn step_settled<E: Element, D: Division>(
     sheet: SettledSheet<E, D>,
     request: &Request<E, D>,
 ) -> (Sheet<E, D>, Reply<E>)
-    ensures { Stepped E.Element.admitted E.Element.shown D.Division.meaning (Settled sheet) request.now result.0 result.1 }
+    ensures { StepFollowsThePlainBook E.admitted E.shown D.meaning
+        (Settled sheet) request.now result.0 result.1 }
 {
     match request {
         Request::Locate(e) => {
@@ -82,12 +87,22 @@ fn step_settled<E: Element, D: Division>(
     }
 }
 
+// Opens a sheet over the parts.
+pub fn begin<E: Element, D: Division>(parts: Parts<E>) -> Result<Sheet<E, D>, Denied<Parts<E>>>
+    ensures { BeginsAsPromised E.admitted E.shown D.meaning parts result }
+{
+    Ok(Sheet::Open(open(parts)?))
+}
+
 // Performs the call where the sheet's state takes it.
 pub fn step<E: Element, D: Division>(
     sheet: Sheet<E, D>,
     request: &Request<E, D>,
 ) -> (Sheet<E, D>, Reply<E>)
-    ensures { Stepped E.Element.admitted E.Element.shown D.Division.meaning sheet request.now result.0 result.1 }
+    ensures on_any_sheet { StepFollowsThePlainBook E.admitted E.shown D.meaning
+        sheet request.now result.0 result.1 }
+    ensures after_every_call { StepEqualsThePlainBookAfterEveryCall E.admitted E.shown D.meaning
+        sheet request.now result.0 result.1 }
 {
     match sheet {
         Sheet::Open(open) => step_open(open, request),

@@ -35,6 +35,6 @@ fn main(rt: HostRuntime) -> io::Result<()> {
     let set = [term(3, 0), term(1, 1), term(0, 2)];
     terms::tell(&page, &set);
     sheet::tell(&page, first, &set);
-    sheet::tell_run(&page, heap, second)?;
+    sheet::tell_run(&page, second);
     page.end()
 }

@@ -3,11 +3,10 @@ use crate::calls::*;
 use crate::page::Page;
 use crate::{DOWN, UP, bars, prefixes, term};
 use elements::PlainTerm;
-use runs::replaying::{NotReplayed, replay};
+use runs::replaying::replay;
 use runs::requests::*;
 use sheets::opening::open;
 use sheets::parts::*;
-use std::alloc::{AllocError, Global};
 
 pub(crate) fn tell(page: &Page, parts: Parts<PlainTerm>, set: &[PlainTerm; 3]) {
     match open(parts) {
@@ -92,11 +91,7 @@ fn tell_settling(page: &Page, sheet: Sheet<PlainTerm, Either>) {
 }
 
 // A list of calls on a sheet that is opened for them. No ordering makes these two terms complete by Janet.
-pub(crate) fn tell_run(
-    page: &Page,
-    heap: Global,
-    parts: Parts<PlainTerm>,
-) -> Result<(), AllocError> {
+pub(crate) fn tell_run(page: &Page, parts: Parts<PlainTerm>) {
     println!(page);
     println!(page;
         "A whole run on a sheet of its own: x1^2 and x2^2 are inserted, weighed by Janet under 1,2,"
@@ -110,17 +105,16 @@ pub(crate) fn tell_run(
         Request::Settle(JANET_LIKE),
         Request::Locate(term(1, 5)),
     ];
-    match replay(heap, parts, &calls) {
-        Ok(replayed) => tell_replies(page, &replayed.replies),
-        Err(NotReplayed::Unopened(denied)) => page.refusal(denied.why),
-        Err(NotReplayed::OutOfMemory) => return Err(AllocError),
+    let mut exchanges = calls.map(Exchange::from);
+    match replay(parts, &mut exchanges) {
+        Ok(_) => tell_replies(page, &exchanges),
+        Err(denied) => page.refusal(denied.why),
     }
-    Ok(())
 }
 
-fn tell_replies(page: &Page, replies: &[Reply<PlainTerm>]) {
-    for reply in replies {
+fn tell_replies(page: &Page, exchanges: &[Exchange<PlainTerm, Either>]) {
+    for reply in exchanges.iter().filter_map(|exchange| exchange.reply) {
         print!(page; "  ");
-        tell_reply(page, reply);
+        tell_reply(page, &reply);
     }
 }

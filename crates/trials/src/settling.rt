@@ -3,7 +3,7 @@ use crate::making::*;
 use divisions::{Division, Janet, JanetLike, OneOf};
 use elements::PlainTerm;
 use orderings::refusals::Refusal;
-use runs::replaying::{NotReplayed, Replayed, replay};
+use runs::replaying::replay;
 use runs::requests::*;
 use sheets::parts::*;
 use std::alloc::{AllocError, Global};
@@ -146,13 +146,15 @@ fn a_run_by_both_divisions(rt: HostRuntime) -> Result<(), Fail> {
         Ok(Grant::Done),
     ];
     let blanks = [term(0, 0, 0); 3];
-    match replay(rt.alloc(), parts(rt.alloc(), &blanks)?, &calls) {
-        Ok(Replayed { sheet: _, replies }) => {
-            assert_eq!(rt; replies.as_slice(), told.as_slice());
+    let mut exchanges = calls.map(Exchange::from);
+    match replay(parts(rt.alloc(), &blanks)?, &mut exchanges) {
+        Ok(_) => {
+            for (exchange, reply) in exchanges.iter().zip(told) {
+                assert_eq!(rt; exchange.reply, Some(reply));
+            }
             assert_eq!(rt; u8::from(Refusal::NoOrdering(2)), 16);
             Ok(())
         }
-        Err(NotReplayed::Unopened(denied)) => Err(Fail::new(denied.why)),
-        Err(NotReplayed::OutOfMemory) => Err(Fail::new("no memory is left")),
+        Err(denied) => Err(Fail::new(denied.why)),
     }
 }

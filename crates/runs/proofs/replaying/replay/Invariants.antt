@@ -1,14 +1,7 @@
-use Rattle.std.proofs.Common.{map, take, vec_items}
-use Rattle.sheets.specs.Read.{Stands}
-use Rattle.runs.specs.Runs.{Run}
-use Rattle.runs.specs.Replies.{parts_of, book_of, call_of, answer_of, HaveTheirForms}
+use Rattle.runs.proofs.Runs.{SoFar}
 use Rattle.runs.proofs.replaying.replay.Given as goal
 
-abbrev pub invariant-loop-call : goal.invariant-loop-call
-invariant-loop-call g l =
-    Stands g.E.Element.admitted g.E.Element.shown (parts_of l.sheet) ×
-    Run (book_of g.E.Element.admitted g.E.Element.shown g.D.Division.meaning l.initial.sheet)
-    (map (call_of g.E.Element.shown g.D.Division.meaning) (take l.call-index l.calls))
-    (map (answer_of g.E.Element.shown) (vec_items l.replies))
-    (book_of g.E.Element.admitted g.E.Element.shown g.D.Division.meaning l.sheet) ×
-    HaveTheirForms g.E.Element.shown g.D.Division.meaning (take l.call-index l.calls) (vec_items l.replies)
+-- the calls so far are replied to, and the sheet is as promised after them
+abbrev pub invariant-loop-exchange : goal.invariant-loop-exchange
+invariant-loop-exchange g l =
+    SoFar g.E.Element.admitted g.E.Element.shown g.D.Division.meaning l.fn.parts l.fn.exchanges l.exchanges l.exchange-index l.sheet
