@@ -6,9 +6,9 @@ use Rattle.divisions.specs.Laws.{Meaning, Lawful}
 use Rattle.divisions.specs.Janet.{janet, janet_like, IsNumbered, by_1, by_2, by_none}
 use Rattle.divisions.specs.Kept.{janet_lawful, janet_like_lawful}
 use Rattle.sheets.specs.Book.{Book, Call, verdict, weigh, settle, Answered, Follows}
-use Rattle.runs.specs.Runs.{LawfulCall, Sound}
-use Rattle.runs.proofs.Sound.{every_call_keeps_books_sound}
-use Rattle.runs.proofs.Once.{a_call_has_one_outcome}
+use Rattle.sheets.specs.History.{LawfulCall}
+use Rattle.sheets.proofs.Sound.{Sound, every_call_keeps_books_sound}
+use Rattle.sheets.proofs.Once.{a_call_has_one_outcome}
 use Rattle.logs.specs.Session.{Calls, inserts, withdraws, arranges, judges, weighs, settles, locates, reopens, Commanded, untaken, undivided, called}
 use Rattle.runs.proofs.Steps.{nothing_is_some, one_some}
 
@@ -78,5 +78,5 @@ a_command_has_one_outcome b c d code operands a o sound (called t x u f) (untake
 a_command_has_one_outcome b c d code operands a o sound (called {call = call} t x u f) (undivided s y) = absurd (nothing_is_some (one_call code operands None (Some call) y x))
 a_command_has_one_outcome b c d code operands a o sound (called {call = call} t x u f) (called {call = other} s y v g) =
     let same : other ≡ call = sym (one_some (one_call code operands (Some other) (Some call) y x)) in
-    let once = a_call_has_one_outcome b call (a_command_calls_lawfully code operands call x) sound in
+    let once = a_call_has_one_outcome b call sound in
     (once.1 a o u (subst (λ (k : Call). Answered b k o) same v), once.0 c d f (subst (λ (k : Call). Follows b k d) same g))

@@ -1,15 +1,17 @@
 -- A log that is read so far, and what comes next. Assumes nothing.
-use Rattle.std.proofs.Common.{◌≡◌, ℕ, suc, ◌+◌, ◌-◌, ◌≤◌, List, [], ◌∷◌, ◌++◌, map, length, Some, None, Ok, Option, sym, ap, ◌∙◌, subst, arith}
+use Rattle.std.proofs.Common.{◌≡◌, ℕ, suc, ◌+◌, ◌-◌, ◌≤◌, Bool, List, [], ◌∷◌, ◌++◌, map, length, Bor, sym, ap, ◌∙◌, subst, arith}
 use Rattle.std.proofs.lemmas.List.{map_push, length-append}
+use Rattle.elements.specs.Element.{Shown}
 use Rattle.orderings.specs.Answer.{Answer, refused}
 use Rattle.sheets.specs.Book.{Book}
-use Rattle.commands.specs.declared.Reading.{Reading}
 use Rattle.commands.specs.Log.{Reads, command, misread}
-use Rattle.commands.specs.Read.{code_of, operands_of, front}
 use Rattle.lines.specs.declared.lines.Line.{Line}
 use Rattle.lines.specs.Line.{line_text}
 use Rattle.logs.specs.Session.{Commanded, Entry, entry, Through, none, more, whole, faulty}
 use Rattle.logs.specs.Told.{entry_text, Lines}
+use Rattle.logs.specs.declared.reading.Step.{Step}
+use Rattle.logs.specs.declared.reading.Step.TheVariants.{End, Performed, Misread}
+use Rattle.logs.specs.Promised.{LogSheet, PerformsAsPromised, PerformsNextAsPromised}
 
 -- one command more
 through_push : {b c : Book} (d : Book) {place end : ℕ} {log left : List ℕ} {entries : List Entry} (code : ℕ) (operands rest : List ℕ) (told : Answer) → Through b place log entries c end left →
@@ -67,9 +69,15 @@ module _ {n : ℕ} {start : Book} {bytes : ℕ} {log : List ℕ} {b : Book} {res
 pub less_left : (code : ℕ) (operands after rest : List ℕ) → Reads rest (command code operands after) → suc (length after) ≤ length rest
 less_left code operands after rest reads = omega (arith, ap length reads.parts, length-append operands after)
 
--- what the reader found, by cases
-pub read_some : (log : List ℕ) (o : Option Reading) (r : Reading) → o ≡ Some r → Reads log (front (Ok o)) → Reads log (command (code_of r.command) (operands_of r.command) r.rest.now)
-read_some log o r e h = subst (λ (x : Option Reading). Reads log (front (Ok x))) e h
+-- what the next step of a log came to, by cases
+module _ {E : Type 0} (admits : ℕ → Bool) (shown : E → Shown) (before after : LogSheet E) (n place : ℕ) (log : List ℕ) (step : Step) (does : PerformsNextAsPromised admits shown before n place log after step) where
+  pub next_end : step ≡ End → log ≡ []
+  next_end e = (subst (λ (s : Step). PerformsNextAsPromised admits shown before n place log after s) e does).0
 
-pub read_none : (log : List ℕ) (o : Option Reading) → o ≡ None → Reads log (front (Ok o)) → log ≡ []
-read_none log o e h = subst (λ (x : Option Reading). Reads log (front (Ok x))) e h
+  pub next_performed : {line : Line} {rest : Bor (List ℕ)} → step ≡ Performed line rest →
+      (code : ℕ) × (operands : List ℕ) × Reads log (command code operands rest.now) × PerformsAsPromised admits shown before n place code operands after line
+  next_performed e = subst (λ (s : Step). PerformsNextAsPromised admits shown before n place log after s) e does
+
+  pub next_misread : {line : Line} → step ≡ Misread line →
+      (first : ℕ) × (number : ℕ) × Reads log (misread first number) × (line_text line ≡ entry_text n (entry place first (refused number []))) × (after ≡ before)
+  next_misread e = subst (λ (s : Step). PerformsNextAsPromised admits shown before n place log after s) e does

@@ -5,7 +5,7 @@ use Rattle.orderings.specs.Answer.{refused}
 use Rattle.sheets.specs.Book.{Book}
 use Rattle.commands.specs.Log.{Front, nothing, command, misread, Reads}
 use Rattle.commands.proofs.Fronts.{reading_has_one_outcome}
-use Rattle.runs.specs.Runs.{Sound}
+use Rattle.sheets.proofs.Sound.{Sound}
 use Rattle.logs.specs.Session.{Commanded, Entry, entry, Through, none, more, Logged, whole, faulty}
 use Rattle.logs.proofs.Called.{a_command_has_one_outcome, a_command_keeps_books_sound}
 

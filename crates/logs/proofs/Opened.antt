@@ -1,24 +1,38 @@
 -- The log of a sheet that was opened for it. Assumes nothing.
-use Rattle.std.proofs.Common.{◌≡◌, ℕ, ◌-◌, ◌≤◌, Bool, ◌&&◌, eqb, leb, List, [], ◌∷◌, length, get_or, take, drop, IfOk, Ok, Err, vec_len, Result, sym, refl, ap, ◌∙◌, subst, arith}
+use Rattle.std.proofs.Common.{◌≡◌, ℕ, ◌-◌, ◌≤◌, Bool, ◌&&◌, eqb, leb, List, [], ◌∷◌, length, get_or, take, drop, IfOk, OnErr, Ok, Err, vec_len, Result, sym, refl, ap, ◌∙◌, subst, arith}
 use Rattle.std.proofs.lemmas.List.{take_all}
 use Rattle.std.proofs.Math.Path.{fun_ext}
 use Rattle.elements.specs.Element.{Shown}
 use Rattle.orderings.specs.Order.{VariableCount}
 use Rattle.sheets.specs.declared.parts.Parts.{Parts}
-use Rattle.sheets.specs.declared.parts.OpenSheet.{OpenSheet}
-use Rattle.sheets.specs.Book.{Book, opened, fresh}
-use Rattle.sheets.specs.Read.{book, Opens}
+use Rattle.orderings.specs.Answer.{Answer}
+use Rattle.divisions.specs.declared.Janet.{Janet}
+use Rattle.divisions.specs.declared.JanetLike.{JanetLike}
+use Rattle.divisions.specs.declared.OneOf.{OneOf}
+use Rattle.sheets.specs.Book.{Book, Call, fresh}
+use Rattle.runs.specs.declared.requests.Sheet.{Sheet}
+use Rattle.sheets.specs.History.{Run, over, next}
+use Rattle.runs.specs.Replies.{book_of, BeginsAsPromised}
+use Rattle.logs.specs.Session.{numbered_meaning}
 use Rattle.lines.specs.declared.lines.Line.{Line}
 use Rattle.lines.specs.declared.reports.Report.{Report}
 use Rattle.logs.specs.Told.{Lines}
 use Rattle.logs.specs.Input.{ReportsKind, Kind, Reports, of_kind}
+use Rattle.logs.specs.Laws.{OpensSomeLog}
 
-pub logged_from : {E : Type 0} (admits : ℕ → Bool) (shown : E → Shown) (before : Parts E) (n : ℕ) (sheet : OpenSheet E) (number kind : ℕ) (log : List ℕ) (lines : List Line) (end : ℕ) →
-    before.header.variables ≡ n → vec_len before.table ≡ 64 → number ≡ kind → Opens admits shown before (Ok sheet) → Lines n (book admits shown opened sheet.parts) log lines end →
+-- before any call the book is the fresh one
+no_calls : {b c : Book} {answers : List Answer} {calls : List Call} → calls ≡ [] → Run b calls answers c → c ≡ b
+no_calls e over = refl
+no_calls e (next t f r) = let z : ◌≡◌ {A = ℕ} 0 1 = cc in absurd (omega arith)
+
+pub logged_from : {E : Type 0} (admits : ℕ → Bool) (shown : E → Shown) (before : Parts E) (n : ℕ) (sheet : Sheet E (OneOf Janet JanetLike)) (number kind : ℕ) (log : List ℕ) (lines : List Line) (end : ℕ) →
+    before.header.variables ≡ n → vec_len before.table ≡ 64 → number ≡ kind → BeginsAsPromised admits shown numbered_meaning before (Ok sheet) →
+    Lines n (book_of admits shown numbered_meaning sheet) log lines end →
     VariableCount n × (n ≡ n) × (number ≡ kind) × Lines n (fresh admits n 64) log lines end
 logged_from admits shown before n sheet number kind log lines end variables places same_kind opens told =
-    let same : book admits shown opened sheet.parts ≡ fresh admits n 64 = opens.outcome.1 ∙ ap (λ v. fresh admits v (vec_len before.table)) variables ∙ ap (fresh admits n) places in
-    (subst VariableCount (ap (λ (b : Book). b.n) same) opens.outcome.0.variables, refl, same_kind, subst (λ (b : Book). Lines n b log lines end) same told)
+    let same : book_of admits shown numbered_meaning sheet ≡ fresh admits n 64 =
+    no_calls refl opens.1.equals_the_plain_book.reached.run ∙ ap (λ v. fresh admits v (vec_len before.table)) variables ∙ ap (fresh admits n) places in
+    (subst VariableCount variables opens.1.equals_the_plain_book.reached.variable_count, refl, same_kind, subst (λ (b : Book). Lines n b log lines end) same told)
 
 -- an input of two bytes and more: these, and the part from the third byte on
 abbrev pub from_third : List ℕ → List ℕ
@@ -41,3 +55,14 @@ pub reported : {X : Type 0} (admits : ℕ → Bool) (input : List ℕ) (kind : �
 reported admits input kind (Ok report) some few e k h =
     of_kind few (two_bytes input some ∙ ap (λ (x : ℕ). get_or input 0 0 ∷ x ∷ from_third input) e) k h
 reported admits input kind (Err x) some few e k h = tt
+
+pub logs_alone : {X : Type 0} (admits : ℕ → Bool) (input : List ℕ) (kind : ℕ) (r : Result Report X) → 2 ≤ length input → length input ≤ 65536 → get_or input 1 0 ≡ kind → Kind kind admits →
+    OnErr r (VariableCount (get_or input 0 0)) → OnErr r (OpensSomeLog input)
+logs_alone admits input kind (Ok report) some few e k count = tt
+logs_alone admits input kind (Err x) some few e k count = (
+  get_or input 0 0,
+  kind,
+  admits,
+  from_third input,
+  record { few = few; parts = two_bytes input some ∙ ap (λ (x : ℕ). get_or input 0 0 ∷ x ∷ from_third input) e; of_kind = k; variable_count = count },
+)

@@ -1,12 +1,12 @@
 -- The commands of a log are a run of lawful calls. Assumes nothing.
-use Rattle.std.proofs.Common.{ℕ, List, [], ◌∷◌, refl, inl, inr}
+use Rattle.std.proofs.Common.{ℕ, List, [], ◌∷◌, refl, inl, inr, arith}
 use Rattle.orderings.specs.Answer.{Answer}
-use Rattle.sheets.specs.Book.{Book, Call}
-use Rattle.runs.specs.Runs.{Run, over, next, LawfulCalls}
-use Rattle.runs.proofs.Runs.{every_run_keeps_the_law}
+use Rattle.sheets.specs.Book.{Book, Call, fresh}
+use Rattle.sheets.specs.History.{Run, over, next, LawfulCalls, History, OpenedThenWentThrough}
+use Rattle.sheets.proofs.Histories.{holds_after_every_call}
 use Rattle.commands.specs.Log.{Reads, command}
 use Rattle.logs.specs.Session.{Commanded, untaken, undivided, called, Entry, entry, Through, none, more, Make, nothing, passed_over, called_for}
-use Rattle.logs.specs.Laws.{EveryLogIsARunUnderTheLaw}
+use Rattle.logs.specs.Laws.{HoldsAfterEveryCommand}
 use Rattle.logs.proofs.Called.{a_command_calls_lawfully}
 
 -- a run from one book to another of the calls that the commands of a log make
@@ -26,7 +26,10 @@ log_ran b c place end log left entries none = ([], [], nothing, tt, over)
 log_ran b c place end log left _ (more {c = d} {code = code} {operands = operands} {rest = rest} {told = told} {entries = entries} reads does through) =
     command_ran b d c place code log operands rest told entries reads does (log_ran d c _ end rest left entries through)
 
-pub every_log_is_a_run_under_the_law : EveryLogIsARunUnderTheLaw
-every_log_is_a_run_under_the_law b c place end log left entries sound through =
-    let (calls, answers, made, laws, run) = log_ran b c place end log left entries through in
-    (calls, answers, made, laws, run, every_run_keeps_the_law b c calls answers sound laws run)
+pub holds_after_every_command : (input : List ℕ) → HoldsAfterEveryCommand input
+holds_after_every_command input n kind admits log opens entries b end left through =
+    let (calls, answers, made, laws, run) = log_ran (fresh admits n 64) b 2 end log left entries through in
+    let h : History = record { variables = n; places = 64; calls = calls; answers = answers } in
+    let reached : OpenedThenWentThrough admits h b =
+    record { variable_count = opens.variable_count; place_count = record { some = omega arith; most = omega arith }; lawful = laws; run = run } in
+    (h, refl, refl, made, reached, holds_after_every_call reached)

@@ -1,17 +1,51 @@
--- What holds of every log, and of every input. Assumes nothing.
-use Rattle.std.specs.Prelude.{◌≡◌, ℕ, List}
-use Rattle.orderings.specs.Answer.{Answer}
-use Rattle.sheets.specs.Book.{Book, Call}
-use Rattle.runs.specs.Runs.{Run, LawfulCalls, Sound, RunLaw}
-use Rattle.logs.specs.Session.{Entry, Through, Make}
-use Rattle.logs.specs.Input.{Prints}
+-- What holds of every input: the text tells the answers of the plain book, which is as promised
+-- after every command. Assumes nothing.
+use Rattle.std.specs.Prelude.{◌≡◌, ℕ, ◌≤◌, Bool, List, [], ◌∷◌, ◌++◌, map, length, codes, decimal}
+use Rattle.orderings.specs.Order.{VariableCount}
+use Rattle.sheets.specs.Book.{Book, fresh}
+use Rattle.sheets.specs.History.{History, OpenedThenWentThrough, HoldsAfterEveryCall}
+use Rattle.lines.specs.Words.{each, ended, spaced}
+use Rattle.logs.specs.Session.{Entry, Through, Make, Logged}
+use Rattle.logs.specs.Told.{entry_text}
+use Rattle.logs.specs.Input.{Kind, Prints}
 
--- from a sound book, the calls that the commands of a log make are lawful, and with their answers they are a run of the book to the one
--- that the log comes to; the law over runs holds of it
-abbrev pub EveryLogIsARunUnderTheLaw : Type 0
-EveryLogIsARunUnderTheLaw =
-    (b c : Book) (place end : ℕ) (log left : List ℕ) (entries : List Entry) → Sound b → Through b place log entries c end left →
-    (calls : List Call) × (answers : List Answer) × Make log entries calls answers × LawfulCalls calls × Run b calls answers c × RunLaw b calls answers c
+-- an input that opens a log, on a sheet of 64 places: few enough bytes, a count of variables, a
+-- kind, which admits such families, and then the log
+pub record OpensALog (input : List ℕ) (n kind : ℕ) (admits : ℕ → Bool) (log : List ℕ) : Type 0 where
+  pub few : length input ≤ 65536
+  pub parts : input ≡ n ∷ kind ∷ log
+  pub of_kind : Kind kind admits
+  pub variable_count : VariableCount n
+
+-- an input that opens some log
+abbrev pub OpensSomeLog : List ℕ → Type 0
+OpensSomeLog input =
+    (n : ℕ) × (kind : ℕ) × (admits : ℕ → Bool) × (log : List ℕ) × OpensALog input n kind admits log
+
+-- the text of a log: its first line, a line for each entry, and the last
+abbrev pub log_text : ℕ → ℕ → List Entry → ℕ → List ℕ
+log_text n kind entries end =
+    let first = spaced (codes "sheet" ∷ decimal n ∷ decimal kind ∷ []) in
+    let last = spaced (codes "end" ∷ decimal end ∷ []) in
+    each ended (first ∷ (map (entry_text n) entries ++ (last ∷ [])))
+
+-- of an input that opens a log, the text tells what each of its commands is answered by the plain
+-- book that was opened for it
+abbrev pub TellsTheAnswersOfThePlainBook : List ℕ → List ℕ → Type 0
+TellsTheAnswersOfThePlainBook input text =
+    (n kind : ℕ) (admits : ℕ → Bool) (log : List ℕ) → OpensALog input n kind admits log →
+    (entries : List Entry) × (end : ℕ) ×
+    Logged (fresh admits n 64) 2 log entries end × (text ≡ log_text n kind entries end)
+
+-- and after each of its commands the calls so far, with their answers, are the history of that
+-- book, of which all holds that is promised
+abbrev pub HoldsAfterEveryCommand : List ℕ → Type 0
+HoldsAfterEveryCommand input =
+    (n kind : ℕ) (admits : ℕ → Bool) (log : List ℕ) → OpensALog input n kind admits log →
+    (entries : List Entry) (b : Book) (end : ℕ) (left : List ℕ) →
+    Through (fresh admits n 64) 2 log entries b end left →
+    (h : History) × (h.variables ≡ n) × (h.places ≡ 64) × Make log entries h.calls h.answers ×
+    OpenedThenWentThrough admits h b × HoldsAfterEveryCall admits h b
 
 -- an input fixes what is printed of it
 abbrev pub AnInputHasOneOutput : Type 0

@@ -1,4 +1,5 @@
 pub mod Session
 pub mod Told
+pub mod Promised
 pub mod Input
 pub mod Laws

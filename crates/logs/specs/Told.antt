@@ -1,21 +1,19 @@
 -- How the session's results and lines are read. Assumes nothing.
-use Rattle.std.specs.Prelude.{◌≡◌, ℕ, suc, ◌-◌, Bool, cond, List, [], ◌∷◌, map, take, Some, None, Ok, Err, codes, decimal, Result, ◌==◌, slice_index, slice_index_or}
+use Rattle.std.specs.Prelude.{◌≡◌, ℕ, suc, ◌-◌, cond, List, [], ◌∷◌, map, take, Some, None, Ok, Err, codes, decimal, Result, ◌==◌, slice_index, slice_index_or}
 use Rattle.elements.specs.Element.{Shown}
 use Rattle.orderings.specs.Answer.{Answer, granted, refused}
 use Rattle.divisions.specs.declared.Janet.{Janet}
 use Rattle.divisions.specs.declared.JanetLike.{JanetLike}
 use Rattle.divisions.specs.declared.OneOf.{OneOf}
 use Rattle.sheets.specs.Book.{Book, State}
-use Rattle.sheets.specs.Read.{Stands}
-use Rattle.runs.specs.declared.requests.Sheet.{Sheet}
 use Rattle.runs.specs.declared.requests.Request.{Request}
-use Rattle.runs.specs.Replies.{parts_of, book_of, call_of, Form, done, place as placed, bars, limits, verdicts, settles}
+use Rattle.runs.specs.Replies.{call_of, Form, done, place as placed, bars, limits, verdicts, settles}
 use Rattle.lines.specs.declared.faults.Untaken.{Untaken}
 use Rattle.lines.specs.declared.faults.Untaken.TheVariants.{WrongState, NoSuchDivision}
 use Rattle.lines.specs.declared.lines.Line.{Line}
 use Rattle.lines.specs.Line.{line_text}
 use Rattle.lines.specs.Words.{spaced, hex}
-use Rattle.logs.specs.Session.{numbered_meaning, TakesCode, Calls, Commanded, Entry, entry, Logged}
+use Rattle.logs.specs.Session.{numbered_meaning, TakesCode, Calls, Entry, Logged}
 
 -- what the session decides: the call of the command, or that its state does not take it, or that its division byte is none
 abbrev pub Requested : {E : Type 0} → (E → Shown) → State → ℕ → List ℕ → Result (Request E (OneOf Janet JanetLike)) Untaken → Type 0
@@ -44,12 +42,6 @@ answer_words form n (refused r vs) = codes "no" ∷ map decimal (r ∷ vs)
 -- the line of a command on a sheet of n variables
 abbrev pub entry_text : ℕ → Entry → List ℕ
 entry_text n e = spaced (decimal e.place ∷ hex e.code ∷ answer_words (slice_index_or forms (e.code - 1) done) n e.told)
-
--- a command on a sheet of n variables, and its line: where the parts make a sheet, what the command does to the book, and the text of what is told
-pub record Performs {E : Type 0} (admits : ℕ → Bool) (shown : E → Shown) (before : Sheet E (OneOf Janet JanetLike)) (n place code : ℕ) (operands : List ℕ) (after : Sheet E (OneOf Janet JanetLike)) (line : Line) : Type 0 where
-  pub stands : Stands admits shown (parts_of before) → Stands admits shown (parts_of after)
-  pub told : Stands admits shown (parts_of before) → (answer : Answer) ×
-      Commanded (book_of admits shown numbered_meaning before) code operands answer (book_of admits shown numbered_meaning after) × (line_text line ≡ entry_text n (entry place code answer))
 
 -- the lines of a log that begins at place 2, on a book of n variables, and the place after its last whole command
 abbrev pub Lines : ℕ → Book → List ℕ → List Line → ℕ → Type 0

@@ -1,15 +1,16 @@
 // What there is to print of an input: a count of variables, a kind, and a log.
-ghost use Rattle.std.specs.Prelude.{◌≤◌, length, IfOk, string_bytes};
+ghost use Rattle.std.specs.Prelude.{◌≤◌, length, IfOk, OnErr, string_bytes};
+ghost use Rattle.orderings.specs.Order.{VariableCount};
 ghost use Rattle.lines.specs.Report.{kind_number};
 ghost use Rattle.logs.specs.Input.{Reports, ReportsKind, Prints};
-ghost use Rattle.logs.specs.Laws.{EveryLogIsARunUnderTheLaw, AnInputHasOneOutput};
+ghost use Rattle.logs.specs.Laws.{OpensSomeLog, TellsTheAnswersOfThePlainBook, HoldsAfterEveryCommand, AnInputHasOneOutput};
 
 use crate::reading::lines_of;
 use elements::{Derivative, Element, PlainTerm};
 use lines::reports::*;
-use runs::requests::*;
-use sheets::opening::{open, parts_for};
-use sheets::parts::*;
+use orderings::orders::is_variable_count;
+use runs::stepping::begin;
+use sheets::opening::parts_for;
 use std::alloc::{AllocError, Global};
 
 // The most bytes that an input may have.
@@ -23,12 +24,16 @@ fn report_kind<E: Element>(
     log: &[u8],
 ) -> Result<Report, AllocError>
     requires { length log.now ≤ 65534 }
-    ensures { IfOk result (ReportsKind E.Element.admitted variables (kind_number kind) log.now) }
+    ensures reported { IfOk result (ReportsKind E.admitted variables (kind_number kind) log.now) }
+    ensures only_a_log_needs_memory { OnErr result (VariableCount variables) }
 {
+    if !is_variable_count(variables) {
+        return Ok(Report::NoLog(BadStart::VariableCount));
+    }
     let parts = parts_for::<E>(heap, variables, 64)?;
-    match open(parts) {
+    match begin(parts) {
         Ok(sheet) => {
-            let (lines, end) = lines_of(heap, Sheet::Open(sheet), variables, log)?;
+            let (lines, end) = lines_of(heap, sheet, variables, log)?;
             Ok(Report::Log {
                 variables,
                 kind: kind.into(),
@@ -36,13 +41,15 @@ fn report_kind<E: Element>(
                 end,
             })
         }
-        Err(_) => Ok(Report::NoLog(BadStart::VariableCount)),
+        // parts for a count of variables and 64 places can be opened over
+        Err(_) => unreachable!(),
     }
 }
 
 // The report on an input: byte 0 is the count of variables, byte 1 the kind, and the log begins at its third byte.
 pub fn report(heap: Global, input: &[u8]) -> Result<Report, AllocError>
-    ensures { IfOk result (Reports input.now) }
+    ensures reported { IfOk result (Reports input.now) }
+    ensures only_a_log_needs_memory { OnErr result (OpensSomeLog input.now) }
 {
     if input.len() > MOST_BYTES {
         return Ok(Report::TooLong);
@@ -66,7 +73,9 @@ pub fn report(heap: Global, input: &[u8]) -> Result<Report, AllocError>
 // What is printed of an input.
 pub fn output(heap: Global, input: &[u8]) -> Result<String, AllocError>
     ensures printed { IfOk result (λ text. Prints input.now (string_bytes text)) }
-    ensures law { EveryLogIsARunUnderTheLaw }
+    ensures told { IfOk result (λ text.
+        TellsTheAnswersOfThePlainBook input.now (string_bytes text)) }
+    ensures after_every_command { HoldsAfterEveryCommand input.now }
     ensures once { AnInputHasOneOutput }
 {
     report(heap, input)?.to_string(heap)

@@ -3,5 +3,5 @@
 
 pub mod inputs;
 mod performing;
-mod reading;
+pub mod reading;
 pub mod sessions;

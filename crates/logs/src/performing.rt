@@ -4,7 +4,8 @@ ghost use Rattle.commands.specs.Read.{code_of, operands_of};
 ghost use Rattle.runs.specs.Replies.{grant_told, grant_form, answer_of, Form, form_of, done};
 ghost use Rattle.lines.specs.Line.{told_words, line_text};
 ghost use Rattle.logs.specs.Session.{entry};
-ghost use Rattle.logs.specs.Told.{forms, values_words, entry_text, Performs};
+ghost use Rattle.logs.specs.Told.{forms, values_words, entry_text};
+ghost use Rattle.logs.specs.Promised.{PerformsAsPromised};
 
 use crate::sessions::request_of;
 use commands::Command;
@@ -63,7 +64,8 @@ pub(crate) fn perform<E: Element>(
     place: usize,
     command: &Command,
 ) -> (Sheet<E, OneOf<Janet, JanetLike>>, Line)
-    ensures { Performs E.Element.admitted E.Element.shown sheet variables place (code_of command.now) (operands_of command.now) result.0 result.1 }
+    ensures { PerformsAsPromised E.admitted E.shown sheet variables place
+        (code_of command.now) (operands_of command.now) result.0 result.1 }
 {
     let code = u8::from(*command);
     match request_of(&sheet, command) {

@@ -4,6 +4,7 @@ ghost use Rattle.sheets.specs.Read.{Stands};
 ghost use Rattle.runs.specs.Replies.{parts_of, book_of};
 ghost use Rattle.logs.specs.Session.{numbered_meaning};
 ghost use Rattle.logs.specs.Told.{Lines};
+ghost use Rattle.logs.specs.Promised.{PerformsNextAsPromised};
 
 use crate::performing::perform;
 use commands::*;
@@ -12,8 +13,45 @@ use elements::Element;
 use lines::faults::*;
 use lines::lines::*;
 use runs::requests::*;
-use sheets::parts::*;
 use std::alloc::{AllocError, Global};
+
+// What the front of a log comes to.
+#[derive(Clone, Copy, PartialEq, Eq, Debug)]
+pub enum Step<'a> {
+    // Nothing is left.
+    End,
+    // A command was performed: its line, and the rest of the log.
+    Performed { line: Line, rest: &'a [u8] },
+    // The first byte begins no whole command: its line.
+    Misread(Line),
+}
+
+// Reads the command at the front of a log, which stands at a place, and performs it on the sheet.
+// It allocates nothing.
+pub fn perform_next<'a, E: Element>(
+    sheet: Sheet<E, OneOf<Janet, JanetLike>>,
+    variables: u8,
+    place: usize,
+    log: &'a [u8],
+) -> (Sheet<E, OneOf<Janet, JanetLike>>, Step<'a>)
+    ensures { PerformsNextAsPromised E.admitted E.shown
+        sheet variables place log.now result.0 result.1 }
+{
+    match read(log) {
+        Ok(None) => (sheet, Step::End),
+        Ok(Some(Reading { command, rest })) => {
+            let (next, line) = perform(sheet, variables, place, &command);
+            (next, Step::Performed { line, rest })
+        }
+        Err(Misreading { code, cause }) => {
+            let cause = cause.into();
+            (
+                sheet,
+                Step::Misread(Line(Err(Fault { place, code, cause }))),
+            )
+        }
+    }
+}
 
 // Performs each command of a log on a sheet, and gives their lines, with the place after the last whole command.
 pub(crate) fn lines_of<E: Element>(
@@ -22,28 +60,29 @@ pub(crate) fn lines_of<E: Element>(
     variables: u8,
     log: &[u8],
 ) -> Result<(Vec<Line>, usize), AllocError>
-    requires { (length log.now ≤ 65534) × (Stands E.Element.admitted E.Element.shown (parts_of sheet)) }
-    ensures { IfOk result (λ t. Lines variables (book_of E.Element.admitted E.Element.shown numbered_meaning sheet) log.now t.0.items t.1) }
+    requires few { length log.now ≤ 65534 }
+    requires stands { Stands E.admitted E.shown (parts_of sheet) }
+    ensures { let book = book_of E.admitted E.shown numbered_meaning sheet in
+        IfOk result (λ t. Lines variables book log.now t.0.items t.1) }
 {
     let mut sheet = sheet;
     let mut rest = log;
     let mut lines = Vec::new(heap);
     // two bytes stand before the log
     let bytes = log.len() + 2;
-    // a loop over what is left of the log, handed on as a part: a rule of the project
+    // what is left of the log is handed on as a part: no byte is read twice, and none past the end
     'log: loop {
         let place = bytes - rest.len();
-        match read(rest) {
-            Ok(None) => break 'log Ok((lines, place)),
-            Ok(Some(reading)) => {
-                let (next, line) = perform(sheet, variables, place, &reading.command);
-                sheet = next;
+        let (next, step) = perform_next(sheet, variables, place, rest);
+        sheet = next;
+        match step {
+            Step::End => break 'log Ok((lines, place)),
+            Step::Performed { line, rest: left } => {
                 lines.push(line)?;
-                rest = reading.rest;
+                rest = left;
             }
-            Err(Misreading { code, cause }) => {
-                let cause = cause.into();
-                lines.push(Line(Err(Fault { place, code, cause })))?;
+            Step::Misread(line) => {
+                lines.push(line)?;
                 break 'log Ok((lines, place));
             }
         }
