@@ -378,11 +378,11 @@ def edits():
 # Refusals
 
 SET = elements("x1^2", "x1 x2", "x3^4095")
-ANY = [(0, 1), (0, 2), (1, 3), (2, 3)]
 
 
 def three_rows(name, places=6):
-    return Stored(name, TERMS, 3, places).insert(*SET).arrange(padded((3, 1, 2)))
+    return Stored(name, TERMS, 3, places).insert(*SET).arrange(
+        padded((3, 1, 2)))
 
 
 def three_derivatives(name, places=6):

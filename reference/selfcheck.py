@@ -15,6 +15,7 @@ import os
 import random
 import sys
 
+import bars
 import known
 import makelog
 import randomlogs
@@ -382,6 +383,118 @@ def check_table_of_d():
     return "bars, stars and limits of D under 3,2,1"
 
 
+def parts_of(n, rows, ordering):
+    """The parts of a sheet as bars.py keeps them."""
+    parts = bars.Parts(bars.TERMS if rows[0][0] == 0 else bars.DERIVATIVES,
+                       n, len(rows) + 1, 8)
+    parts.open()
+    for row in rows:
+        parts.insert(row)
+    parts.arrange(list(ordering) + [0] * (8 - n))
+    return parts
+
+
+def check_bars_told():
+    looked = 0
+    for n, rows in small_sheets("bars", 120, 4, 3, 8):
+        for ordering in itertools.permutations(range(1, n + 1)):
+            parts = parts_of(n, rows, ordering)
+            for (place, u), v in itertools.product(enumerate(rows), ordering):
+                assert parts.bar(place, v) == (
+                    bar_number(rows, ordering, u, v),
+                    star(rows, ordering, u, v))
+                for division in BOTH:
+                    assert parts.limit(division, place, v) \
+                        == limit(rows, ordering, division, u, v)
+                looked += 1
+    n, texts = SETS["D"]
+    told = bars.Stored("d", bars.TERMS, n, 6).insert(
+        *map(element, texts)).tell_under([(3, 2, 1)]).lines[-6:]
+    assert told == [
+        "0 | x1 1* - - | x2 1 1 1 | x3 1 1 2",
+        "1 | x1 2* - - | x2 2 1 3 | x3 1 1 2",
+        "2 | x1 3* - - | x2 3* - - | x3 1 1 2",
+        "3 | x1 4* - - | x2 4 1 2 | x3 2 1 3",
+        "4 | x1 5* - - | x2 5* - - | x3 2 1 3",
+        "5 | x1 6* - - | x2 6* - - | x3 3* - -"]
+    return f"{looked} bars with their limits, and D as it is told"
+
+
+def plainly_a_sheet(kind, n, table, order, row_count):
+    """Whether parts make a sheet, condition by condition."""
+    if n not in range(1, 9):
+        return False
+    if len(table) not in range(1, 65):
+        return False
+    if row_count > len(table):
+        return False
+    if not any(order == list(p) + [0] * (8 - n)
+               for p in itertools.permutations(range(1, n + 1))):
+        return False
+    for place in range(row_count):
+        family, exponents = table[place]
+        if family not in ([0] if kind == bars.TERMS else range(1, 17)):
+            return False
+        if any(e > (4095 if v <= n else 0)
+               for v, e in enumerate(exponents, 1)):
+            return False
+        if any(table[before] == table[place] for before in range(place)):
+            return False
+    return all(family == 0 and exponents == (0,) * 8
+               for family, exponents in table[row_count:])
+
+
+def check_parts():
+    judged = {True: 0, False: 0}
+    for index, (n, rows) in enumerate(small_sheets("parts", 1500, 4, 2, 6)):
+        rng = random.Random(index)
+        parts = parts_of(n, rows, some_ordering(n, rows))
+        for _ in range(rng.randint(0, 2)):
+            place = rng.randrange(len(parts.table))
+            family, exponents = parts.table[place]
+            which = rng.randrange(9)
+            if which == 0:
+                parts.n = rng.choice([0, 1, n - 1, n + 1, 9])
+            elif which == 1:
+                parts.row_count = rng.choice([0, len(rows) - 1,
+                                              len(rows) + 1, len(rows) + 2])
+            elif which == 2:
+                parts.order[rng.randrange(8)] = rng.randint(0, n + 1)
+            elif which == 3:
+                parts.order = rng.choice([parts.order[:7], parts.order + [0]])
+            elif which == 4:
+                parts.table[place] = rng.choice(parts.table)
+            elif which == 5:
+                parts.table[place] = rng.choice([0, 1, 2, 16, 17]), exponents
+            elif which == 6:
+                v = rng.randint(1, n)
+                parts.table[place] = sheetlog.times_power(
+                    (family, exponents), v, rng.choice([1, 4090, 4096]))
+            elif which == 7:
+                parts.table[place] = sheetlog.times_power(
+                    (family, exponents), rng.randint(1, 8), 1)
+            else:
+                parts.table += [bars.BLANK] * rng.choice([1, 60])
+        made = plainly_a_sheet(parts.kind, parts.n, parts.table, parts.order,
+                               parts.row_count)
+        assert parts.make_a_sheet() == made
+        for place, v in itertools.product((0, len(rows), len(rows) + 1),
+                                          (0, 1, parts.n, parts.n + 1)):
+            if not made:
+                refused = "no 8"
+            elif place >= parts.row_count or v not in range(1, parts.n + 1):
+                refused = "no 10"
+            else:
+                refused = None
+            for told in (bars.answer(parts.bar, place, v),
+                         bars.answer(parts.limit, JANET, place, v),
+                         bars.answer(parts.limit, LIKE, place, v)):
+                assert (told if told.startswith("no") else None) == refused
+        judged[made] += 1
+    assert min(judged.values()) > 200
+    return f"{judged[True]} parts make a sheet and {judged[False]} none"
+
+
 def check_near_misses():
     rows = list(map(element, SETS["D"][1]))
     assert gap(rows, (3, 2, 1), element("x1^2 x2"), 2) == 3
@@ -562,8 +675,9 @@ def check_examples():
 CHECKS = [check_limits, check_laws, check_completeness, check_cones,
           check_first_shortfall, check_search,
           check_janet_like_completes_more, check_worked_sets,
-          check_table_of_d, check_near_misses, check_sample_log,
-          check_edge_cases, check_known_sets, check_makelog, check_examples]
+          check_table_of_d, check_bars_told, check_parts, check_near_misses,
+          check_sample_log, check_edge_cases, check_known_sets, check_makelog,
+          check_examples]
 
 
 def main():

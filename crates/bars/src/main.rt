@@ -1,20 +1,24 @@
-// Tells the bars and limits of stored sheets, which no log can ask for. The expected output is written by the second implementation.
+// Tells the bars and limits of stored sheets, which no log asks for. The second implementation writes the sheets and the expected output.
 //
-// The file `sheets` holds sheets, one after the other. A sheet is six bytes and then its requests. The bytes are the kind, 0 for plain
-// terms and 1 for derivatives; n; the number of places; how many order bytes it is opened with; and, the high byte first, the number of
-// its requests. A request is 19 bytes: a letter, a number, and 17 bytes, those of an element as in a log or of a list with zeros after it.
+// The file `sheets` has one sheet after the other, each six bytes and then its requests:
+//
+//     byte 0      the kind, 0 for plain terms and 1 for derivatives
+//     byte 1      n
+//     byte 2      how many places it has
+//     byte 3      how many order bytes it is opened with
+//     bytes 4, 5  how many requests follow, the high byte first
+//
+// A request is 19 bytes: a letter, a number, and an operand of 17 bytes, which is an element as in a log, a list with zeros after it,
+// whose length is the number, or one byte with zeros after it.
 //
 //     i  insert the element
 //     w  withdraw the element
-//     a  arrange by the first bytes of the list, as many as the number says
-//     b  tell the bar and limits at a place, the number, and a variable, the first of the 17 bytes
+//     a  arrange by the list
+//     b  tell the bar and the limits at a place, the number, and a variable, the byte
 //     t  tell those of every row and variable
-//
-// and three that alter the parts outside the calls:
-//
-//     p  write the element at the place of that number
-//     o  make the order bytes the first bytes of the list, as many as the number says
-//     h  make the header n, the number, and a row count, the first of the 17 bytes
+//     p  write the element at a place, the number, outside the calls
+//     o  write the list for the order bytes, outside the calls
+//     h  write n, the number, and the row count, the byte, outside the calls
 #![tactic(auto)]
 
 mod stored;

@@ -131,13 +131,10 @@ fn tell_row<E: Element>(
 
 fn tell_bar(rt: &HostRuntime, told: Result<Bar, Refusal>) -> io::Result<()> {
     match told {
-        Ok(Bar { number, star: true }) => print!(rt; " {number}*"),
-        Ok(
-            Bar {
-                number,
-                star: false,
-            },
-        ) => print!(rt; " {number}"),
+        Ok(Bar { number, star }) => {
+            let mark = if star { "*" } else { "" };
+            print!(rt; " {number}{mark}")
+        }
         Err(refusal) => tell_refusal(rt, refusal),
     }
 }
