@@ -135,28 +135,26 @@ def bar_number(rows, order, place, v):
 
 # Stored sheets: what is asked, and what is answered
 
-def answer(call, *handed):
-    """What a call is answered, in words: its values, or its refusal."""
+def answer(words, call, *handed):
+    """The answer of a call in words, or its refusal."""
     try:
-        return written(call(*handed))
+        return words(call(*handed))
     except sheetlog.Refused as refusal:
         return f"no {refusal.values[0]}"
 
 
-def written(value):
-    if value is None:
-        return "-"
-    if isinstance(value, tuple):
-        number, star = value
-        return f"{number}*" if star else f"{number}"
-    return str(value)
+def bar_words(bar):
+    number, star = bar
+    return f"{number}*" if star else f"{number}"
 
 
-def edited(call, *handed):
-    """What a call that writes is answered."""
-    told = answer(call, *handed)
-    return told if told.startswith("no") else "ok" if told == "-" \
-        else f"ok {told}"
+def limit_words(limit):
+    return "-" if limit is None else f"{limit}"
+
+
+def edit_words(place):
+    """Of a call that writes; an insert gives a place."""
+    return "ok" if place is None else f"ok {place}"
 
 
 class Stored:
@@ -168,7 +166,8 @@ class Stored:
         self.head = bytes([kind, n, places, order_bytes])
         self.requests = []
         self.lines = [f"kind {kind}, n {n}, places {places}, "
-                      f"order bytes {order_bytes} {edited(self.parts.open)}"]
+                      f"order bytes {order_bytes} "
+                      + answer(edit_words, self.parts.open)]
 
     def data(self):
         return self.head + len(self.requests).to_bytes(2, "big") \
@@ -188,38 +187,45 @@ class Stored:
     def insert(self, *elements):
         for element in elements:
             self.ask("i", 0, makelog.element_bytes(*element))
-            self.say(f"insert {edited(self.parts.insert, element)}")
+            self.say("insert " + answer(edit_words, self.parts.insert,
+                                        element))
         return self
 
     def withdraw(self, *elements):
         for element in elements:
             self.ask("w", 0, makelog.element_bytes(*element))
-            self.say(f"withdraw {edited(self.parts.withdraw, element)}")
+            self.say("withdraw " + answer(edit_words, self.parts.withdraw,
+                                          element))
         return self
 
     def arrange(self, numbers):
         numbers = list(numbers)
         self.ask("a", len(numbers), numbers)
-        self.say(f"arrange {numbers} {edited(self.parts.arrange, numbers)}")
+        self.say(f"arrange {numbers} "
+                 + answer(edit_words, self.parts.arrange, numbers))
         return self
 
     def cells(self, place, variables):
-        parts = self.parts
-        return "".join(
-            f" | x{v} {answer(parts.bar, place, v)}"
-            f" {answer(parts.limit, JANET, place, v)}"
-            f" {answer(parts.limit, JANET_LIKE, place, v)}"
-            for v in variables)
+        """The bar and the limits of each of these variables at a place."""
+        for v in variables:
+            bar = answer(bar_words, self.parts.bar, place, v)
+            janet, janet_like = (
+                answer(limit_words, self.parts.limit, division, place, v)
+                for division in (JANET, JANET_LIKE))
+            yield f" | x{v} {bar} {janet} {janet_like}"
+
+    def say_row(self, place, variables):
+        self.say(f"{place}" + "".join(self.cells(place, variables)))
 
     def tell_bar(self, place, v):
         self.ask("b", place, [v])
-        self.say(f"{place}{self.cells(place, [v])}")
+        self.say_row(place, [v])
         return self
 
     def tell_rows(self):
         self.ask("t")
         for place in range(self.parts.row_count):
-            self.say(f"{place}{self.cells(place, range(1, self.parts.n + 1))}")
+            self.say_row(place, range(1, self.parts.n + 1))
         return self
 
     # Alterations outside the calls

@@ -444,6 +444,15 @@ def plainly_a_sheet(kind, n, table, order, row_count):
                for family, exponents in table[row_count:])
 
 
+def refusal_of(call, *handed):
+    """The number of the refusal of a call, or None."""
+    try:
+        call(*handed)
+        return None
+    except sheetlog.Refused as refusal:
+        return refusal.values[0]
+
+
 def check_parts():
     judged = {True: 0, False: 0}
     for index, (n, rows) in enumerate(small_sheets("parts", 1500, 4, 2, 6)):
@@ -481,15 +490,14 @@ def check_parts():
         for place, v in itertools.product((0, len(rows), len(rows) + 1),
                                           (0, 1, parts.n, parts.n + 1)):
             if not made:
-                refused = "no 8"
+                refused = 8
             elif place >= parts.row_count or v not in range(1, parts.n + 1):
-                refused = "no 10"
+                refused = 10
             else:
                 refused = None
-            for told in (bars.answer(parts.bar, place, v),
-                         bars.answer(parts.limit, JANET, place, v),
-                         bars.answer(parts.limit, LIKE, place, v)):
-                assert (told if told.startswith("no") else None) == refused
+            assert refusal_of(parts.bar, place, v) == refused
+            for division in BOTH:
+                assert refusal_of(parts.limit, division, place, v) == refused
         judged[made] += 1
     assert min(judged.values()) > 200
     return f"{judged[True]} parts make a sheet and {judged[False]} none"
