@@ -17,7 +17,8 @@ use elements::Element;
 use places::Places;
 
 // For the product of a row with the power of a variable that is its limit, the place of a row whose cone holds it: that of variable v at index v - 1,
-// as limits are kept. Places, not references, and no list: a rule of the project, as the search has no heap. A byte holds a place, which is below 64.
+// as limits are kept. It is an array, and no list, since the search has no heap and so cannot fail for want of memory; and of places, not of references,
+// since a place is below 64 and so a byte, which keeps the table small.
 pub(crate) type Cones = [[u8; 8]; 64];
 
 // Past the places of all rows: no cone has been told yet.

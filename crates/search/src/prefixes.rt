@@ -3,7 +3,7 @@ ghost use Rattle.std.specs.Prelude.{◌≡◌, ◌+◌, ◌-◌, ◌≤◌, fals
 ghost use Rattle.search.specs.Prefixes.{has, unused_above, Entries, Marked, padded, completed as completion};
 
 // The first entries of an ordering of n variables: distinct ones of these, the greatest first, with zeros after them.
-// It is an array and a length, and no Vec: a rule of the project, as the search has no heap. Its eight bytes, with the zeros,
+// It is an array and a length, and no Vec, since the search has no heap and so cannot fail for want of memory. Its eight bytes, with the zeros,
 // are the order bytes of the ordering that it becomes, so that a list of fixed capacity would be no plainer.
 #[derive(Clone, Copy)]
 pub(crate) struct Prefix {

@@ -53,7 +53,8 @@ pub fn search<E: Element, D: Division>(division: &D, rows: &[E], n: u8) -> Found
     let mut kept = None;
     let mut from: u8 = 0;
     let mut tested: u32 = 0;
-    // a loop that breaks with the ordering: a rule of the project
+    // the loop ends at the first live prefix of full length, or where no prefix is left, and its value says at which:
+    // so no variable holds an ordering that is none yet
     let ordering = 'walk: loop {
         match prefix.next_unused(from) {
             None => {
