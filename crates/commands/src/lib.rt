@@ -108,7 +108,8 @@ fn one(code: u8, after: &[u8]) -> Result<(&u8, &[u8]), Misreading>
 }
 
 // The command at the front of a log, if any is left. The first byte decides it, and then what follows is judged.
-// That each code has an arm with its first byte and the rest is a rule of the project.
+// Each code has an arm that names its first byte and what follows: so each command's operands and their widths are read off
+// its arm, and a first byte without an arm is no code.
 #[tactic(auto, using(crate::proofs::Fronts::reading_has_one_outcome))]
 pub fn read(log: &[u8]) -> Result<Option<Reading<'_>>, Misreading>
     ensures reads { Reads log.now (front result) }

@@ -9,8 +9,8 @@ use crate::shapes::*;
 use crate::tables::*;
 use elements::Element;
 
-// Rows in n variables, with the limits of each. These are two lists, and not one of pairs: a rule of the project,
-// as the rows stay in the caller's table, and the limits lie in fixed memory.
+// Rows in n variables, with the limits of each. These are two lists, and not one of pairs: the rows stay in the caller's table,
+// and the limits lie in fixed memory, so that nothing is copied and a verdict cannot fail for want of memory.
 #[derive(Clone, Copy, PartialEq, Eq, Debug)]
 pub struct Limited<'a, E> {
     pub rows: &'a [E],

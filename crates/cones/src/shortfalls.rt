@@ -69,7 +69,8 @@ impl<E: Element> Limited<'_, E> {
         ensures complete { CompleteExactlyWithoutShortfall }
         ensures janet_like { JanetLikeCompletesWhatAnyCompletes }
     {
-        // nested loops left by a label: a rule of the project
+        // the first shortfall is at the lowest place and, there, in the lowest variable: it is the first that the loops come to,
+        // and it ends both at once, as the label says
         'search: {
             for (place, row) in self.rows.iter().enumerate() {
                 for variable in 1..=self.n {

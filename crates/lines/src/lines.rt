@@ -22,8 +22,8 @@ pub enum Told {
         variable: u8,
         power: u16,
     },
-    // How many prefixes were tested, and the ordering that was left, of so many variables. The order bytes are eight with zeros after these,
-    // as a sheet has them: a rule of the project.
+    // How many prefixes were tested, and the ordering that was left, of so many variables.
+    // It is the sheet's own eight bytes, handed on as they are; the zeros after the variables are not printed.
     Settled {
         tested: u32,
         variables: u8,

@@ -1,8 +1,9 @@
 // The parts of a sheet, and the sheet that is open to edits. A caller may build parts with any content.
 use orderings::refusals::Refusal;
 
-// How many variables there are, and how many rows. The count of rows stands beside the table, and the table is no list of rows alone:
-// a rule of the project, as a sheet has all its places from the start and a caller may hand in parts with any content.
+// How many variables there are, and how many rows. The count of rows stands beside the table, since what a place holds does not tell
+// whether it is a row: a blank is the same as the term 1, which may be one. The table is no list of rows alone, since a sheet has
+// all its places from the start, so that no insert needs memory.
 #[derive(Clone, Copy, PartialEq, Eq, Debug)]
 pub struct Header {
     pub variables: u8,
@@ -60,7 +61,8 @@ pub struct Bar {
 
 // Whether rows are complete. Where they are, the element is the row at place 0 and the numbers are 0;
 // else it is the row that falls short first, with its place, the variable and the power.
-// That a flag stands beside the numbers is a rule of the project: a verdict tells all five, an element of a row in either case.
+// It has these five fields in either case and for every kind, so that terms and derivatives are told alike. The flag stands beside
+// the numbers, since an element and its place are told of complete rows too, and do not say that they are complete.
 #[derive(Clone, Copy, PartialEq, Eq, Debug)]
 pub struct Verdict<E> {
     pub complete: bool,
