@@ -91,7 +91,8 @@ fn step_settled<E: Element, D: Division>(
 pub fn begin<E: Element, D: Division>(parts: Parts<E>) -> Result<Sheet<E, D>, Denied<Parts<E>>>
     ensures { BeginsAsPromised E.admitted E.shown D.meaning parts result }
 {
-    Ok(Sheet::Open(open(parts)?))
+    let sheet = open(parts)?;
+    Ok(Sheet::Open(sheet))
 }
 
 // Performs the call where the sheet's state takes it.
