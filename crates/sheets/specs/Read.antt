@@ -20,7 +20,8 @@ bar_told b = b.number ∷ cond b.star 1 0 ∷ []
 
 -- the values of a verdict
 abbrev pub verdict_told : {E : Type 0} → (E → Shown) → Verdict E → List ℕ
-verdict_told shown v = cond v.complete 1 0 ∷ v.place ∷ v.variable ∷ v.power ∷ element_told (shown v.element)
+verdict_told shown v =
+    cond v.complete 1 0 ∷ v.place ∷ v.variable ∷ v.power ∷ element_told (shown v.element)
 
 -- the values of a settling
 abbrev pub served_told : Served → List ℕ
@@ -47,7 +48,8 @@ module _ {X Y : Type 0} where
 module _ {E : Type 0} (admits : ℕ → Bool) (shown : E → Shown) where
   -- the parts make a sheet of the kind
   abbrev pub Stands : Parts E → Type 0
-  Stands p = Makes admits p.header.variables p.header.rows (map shown (vec_items p.table)) (vec_items p.order)
+  Stands p =
+      Makes admits p.header.variables p.header.rows (map shown (vec_items p.table)) (vec_items p.order)
 
   -- the parts, with a state, as a book
   abbrev pub book : State → Parts E → Book
@@ -64,7 +66,8 @@ module _ {E : Type 0} (admits : ℕ → Bool) (shown : E → Shown) where
   abbrev pub ABookFixesItsSheet : Type 0
   ABookFixesItsSheet =
       (state : State) (p q : Parts E) → Stands p → Stands q → book state p ≡ book state q →
-      (vec_items p.table ≡ vec_items q.table) × (vec_items p.order ≡ vec_items q.order) × (p.header ≡ q.header)
+      (vec_items p.table ≡ vec_items q.table) × (vec_items p.order ≡ vec_items q.order) ×
+      (p.header ≡ q.header)
 
   -- after a history the parts, in a state, equal the plain book: they make a sheet, and their
   -- rows by place, their ordering, the state and with it the division are those of the book that
@@ -114,7 +117,8 @@ module _ {E : Type 0} (admits : ℕ → Bool) (shown : E → Shown) where
         Answers (open_asks before.header.variables (vec_len before.table) (vec_len before.order))
         (λ a. a ≡ granted []) (moved_answer (λ _. []) result)
     pub outcome : MatchResult result
-        (λ s. Stands s.parts × (book opened s.parts ≡ fresh admits before.header.variables (vec_len before.table)))
+        (λ s. Stands s.parts ×
+        (book opened s.parts ≡ fresh admits before.header.variables (vec_len before.table)))
         (λ d. d.back ≡ before)
     pub once_opened : IfOk result
         (λ s. IsAsPromised (just_opened before.header.variables (vec_len before.table))
