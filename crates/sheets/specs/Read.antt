@@ -35,15 +35,15 @@ settled_division s = s.division
 abbrev pub settled_state : {E D : Type 0} → (D → Meaning) → SettledSheet E D → State
 settled_state meaning s = settled_by (meaning (settled_division s))
 
--- what a call that gives its sheet back comes to: the answer, and the state and parts after it
+-- of a call that takes its sheet: the answer, and what is read of what it gives or else hands back
 module _ {X Y : Type 0} where
-  abbrev pub moved_answer : (Y → List ℕ) → Result Y (Denied X) → Answer
-  moved_answer tells (Ok y) = granted (tells y)
-  moved_answer tells (Err d) = refusal d.why
+  abbrev pub outcome_answer : (Y → List ℕ) → Result Y (Denied X) → Answer
+  outcome_answer tells (Ok y) = granted (tells y)
+  outcome_answer tells (Err d) = refusal d.why
 
-  abbrev pub moved : {Z : Type 0} → (X → Z) → (Y → Z) → Result Y (Denied X) → Z
-  moved old new (Ok y) = new y
-  moved old new (Err d) = old d.back
+  abbrev pub outcome_of : {Z : Type 0} → (X → Z) → (Y → Z) → Result Y (Denied X) → Z
+  outcome_of old new (Ok y) = new y
+  outcome_of old new (Err d) = old d.back
 
 module _ {E : Type 0} (admits : ℕ → Bool) (shown : E → Shown) where
   -- the parts make a sheet of the kind
@@ -115,7 +115,7 @@ module _ {E : Type 0} (admits : ℕ → Bool) (shown : E → Shown) where
       Type 0 where
     pub answered :
         Answers (open_asks before.header.variables (vec_len before.table) (vec_len before.order))
-        (λ a. a ≡ granted []) (moved_answer (λ _. []) result)
+        (λ a. a ≡ granted []) (outcome_answer (λ _. []) result)
     pub outcome : MatchResult result
         (λ s. Stands s.parts ×
         (book opened s.parts ≡ fresh admits before.header.variables (vec_len before.table)))

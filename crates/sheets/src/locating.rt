@@ -2,7 +2,7 @@
 ghost use Rattle.std.specs.Prelude.{◌≡◌, [], ◌∷◌, IfErr};
 ghost use Rattle.orderings.specs.Answer.{answer};
 ghost use Rattle.sheets.specs.Book.{opened, locate as to_locate, reopen as to_reopen};
-ghost use Rattle.sheets.specs.Read.{ActsAsPromised, moved_answer, moved, settled_division, settled_state};
+ghost use Rattle.sheets.specs.Read.{ActsAsPromised, outcome_answer, outcome_of, settled_division, settled_state};
 
 use crate::judging::*;
 use crate::parts::*;
@@ -48,9 +48,9 @@ impl<E: Element, D: Division> SettledSheet<E, D> {
     // Gives the open sheet back, unaltered.
     pub fn reopen(self) -> Result<OpenSheet<E>, Denied<SettledSheet<E, D>>>
         ensures step { let state = settled_state D.meaning self in
-            let told = moved_answer (λ _. []) result in
-            let next = moved (settled_state D.meaning) (λ _. opened) result in
-            let after = moved (λ s. s.parts) (λ s. s.parts) result in
+            let told = outcome_answer (λ _. []) result in
+            let next = outcome_of (settled_state D.meaning) (λ _. opened) result in
+            let after = outcome_of (λ s. s.parts) (λ s. s.parts) result in
             ActsAsPromised E.admitted E.shown state self.parts to_reopen told next after }
         ensures back { IfErr result (λ d. d.back ≡ self) }
     {

@@ -3,7 +3,7 @@ ghost use Rattle.std.specs.Prelude.{◌≡◌, IfOk, IfErr};
 ghost use Rattle.orderings.specs.Answer.{granted, refusal};
 ghost use Rattle.sheets.specs.declared.parts.Parts.{Parts};
 ghost use Rattle.sheets.specs.Book.{opened, settled_by, settle as to_settle};
-ghost use Rattle.sheets.specs.Read.{Stands, ActsAsPromised, StaysOpenAsPromised, moved_answer, moved, served_told, settled_division, settled_state};
+ghost use Rattle.sheets.specs.Read.{Stands, ActsAsPromised, StaysOpenAsPromised, outcome_answer, outcome_of, served_told, settled_division, settled_state};
 
 use crate::judging::*;
 use crate::parts::*;
@@ -43,9 +43,9 @@ impl<E: Element> OpenSheet<E> {
     // Writes the first ordering that makes the rows complete by the division, and makes this a settled sheet that carries the division.
     pub fn settle<D: Division>(self, division: D) -> Result<Settling<E, D>, Denied<OpenSheet<E>>>
         ensures step { let call = to_settle (D.meaning division) in
-            let told = moved_answer (λ s. served_told s.served) result in
-            let next = moved (λ _. opened) (λ s. settled_state D.meaning s.sheet) result in
-            let after = moved (λ s. s.parts) (λ s. s.sheet.parts) result in
+            let told = outcome_answer (λ s. served_told s.served) result in
+            let next = outcome_of (λ _. opened) (λ s. settled_state D.meaning s.sheet) result in
+            let after = outcome_of (λ s. s.parts) (λ s. s.sheet.parts) result in
             ActsAsPromised E.admitted E.shown opened self.parts call told next after }
         ensures carried { IfOk result (λ s. settled_division s.sheet ≡ division) }
         ensures back { IfErr result (λ d. d.back ≡ self) }
