@@ -108,7 +108,7 @@ one_report input r q (of_kind {n = n} {kind = kind} {log = log} {admits = admits
     one_of_kind input n kind m number log bytes admits others r q e f k k' h h'
 
 pub an_input_has_one_output : AnInputHasOneOutput
-an_input_has_one_output input t u (r, x, e) (q, y, f) = e ∙ one_report input r q x y ∙ sym f
+an_input_has_one_output = record { once = λ input t u (r, x, e) (q, y, f). e ∙ one_report input r q x y ∙ sym f }
 
 -- the text of a log on a sheet, by its entries
 Told : (ℕ → Bool) → ℕ → ℕ → List ℕ → List ℕ → Type 0

@@ -48,5 +48,5 @@ HoldsAfterEveryCommand input =
     OpenedThenWentThrough admits h b × HoldsAfterEveryCall admits h b
 
 -- an input fixes what is printed of it
-abbrev pub AnInputHasOneOutput : Type 0
-AnInputHasOneOutput = (input t u : List ℕ) → Prints input t → Prints input u → t ≡ u
+pub record AnInputHasOneOutput : Type 0 where
+  pub once : (input t u : List ℕ) → Prints input t → Prints input u → t ≡ u

@@ -71,6 +71,7 @@ pub fn report(heap: Global, input: &[u8]) -> Result<Report, AllocError>
 }
 
 // What is printed of an input.
+#[tactic(auto, using(crate::proofs::Printed::an_input_has_one_output, crate::proofs::Ran::holds_after_every_command))]
 pub fn output(heap: Global, input: &[u8]) -> Result<String, AllocError>
     ensures printed { IfOk result (λ text. Prints input.now (string_bytes text)) }
     ensures told { IfOk result (λ text.
