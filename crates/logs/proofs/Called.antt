@@ -7,7 +7,7 @@ use Rattle.divisions.specs.Janet.{janet, janet_like, IsNumbered, by_1, by_2, by_
 use Rattle.divisions.specs.Kept.{janet_lawful, janet_like_lawful}
 use Rattle.sheets.specs.Book.{Book, Call, verdict, weigh, settle, Answered, Follows}
 use Rattle.sheets.specs.History.{LawfulCall}
-use Rattle.sheets.proofs.Sound.{Sound, every_call_keeps_books_sound}
+use Rattle.sheets.proofs.Sound.{Sound, every_call_keeps_n, every_call_keeps_books_sound}
 use Rattle.sheets.proofs.Once.{a_call_has_one_outcome}
 use Rattle.logs.specs.Session.{Calls, inserts, withdraws, arranges, judges, weighs, settles, locates, reopens, Commanded, untaken, undivided, called}
 use Rattle.runs.proofs.Steps.{nothing_is_some, one_some}
@@ -80,3 +80,9 @@ a_command_has_one_outcome b c d code operands a o sound (called {call = call} t 
     let same : other ≡ call = sym (one_some (one_call code operands (Some other) (Some call) y x)) in
     let once = a_call_has_one_outcome b call sound in
     (once.1 a o u (subst (λ (k : Call). Answered b k o) same v), once.0 c d f (subst (λ (k : Call). Follows b k d) same g))
+
+-- no command alters the count of variables
+pub a_command_keeps_n : (b c : Book) (code : ℕ) (operands : List ℕ) (told : Answer) → Commanded b code operands told c → c.n ≡ b.n
+a_command_keeps_n b c code operands told (untaken x) = refl
+a_command_keeps_n b c code operands told (undivided t x) = refl
+a_command_keeps_n b c code operands told (called {call = call} t x answered follows) = every_call_keeps_n b c call follows

@@ -27,12 +27,12 @@ no_calls e (next t f r) = let z : ◌≡◌ {A = ℕ} 0 1 = cc in absurd (omega 
 
 pub logged_from : {E : Type 0} (admits : ℕ → Bool) (shown : E → Shown) (before : Parts E) (n : ℕ) (sheet : Sheet E (OneOf Janet JanetLike)) (number kind : ℕ) (log : List ℕ) (lines : List Line) (end : ℕ) →
     before.header.variables ≡ n → vec_len before.table ≡ 64 → number ≡ kind → BeginsAsPromised admits shown numbered_meaning before (Ok sheet) →
-    Lines n (book_of admits shown numbered_meaning sheet) log lines end →
+    Lines (book_of admits shown numbered_meaning sheet).n (book_of admits shown numbered_meaning sheet) log lines end →
     VariableCount n × (n ≡ n) × (number ≡ kind) × Lines n (fresh admits n 64) log lines end
 logged_from admits shown before n sheet number kind log lines end variables places same_kind opens told =
     let same : book_of admits shown numbered_meaning sheet ≡ fresh admits n 64 =
     no_calls refl opens.1.equals_the_plain_book.reached.run ∙ ap (λ v. fresh admits v (vec_len before.table)) variables ∙ ap (fresh admits n) places in
-    (subst VariableCount variables opens.1.equals_the_plain_book.reached.variable_count, refl, same_kind, subst (λ (b : Book). Lines n b log lines end) same told)
+    (subst VariableCount variables opens.1.equals_the_plain_book.reached.variable_count, refl, same_kind, subst (λ (b : Book). Lines b.n b log lines end) same told)
 
 -- an input of two bytes and more: these, and the part from the third byte on
 abbrev pub from_third : List ℕ → List ℕ

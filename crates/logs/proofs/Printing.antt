@@ -11,7 +11,7 @@ use Rattle.sheets.specs.Book.{Call, verdict, weigh, settle}
 use Rattle.runs.specs.declared.requests.Grant.{Grant}
 use Rattle.runs.specs.declared.requests.Request.{Request}
 use Rattle.runs.specs.declared.requests.Sheet.{Sheet}
-use Rattle.runs.specs.Replies.{Reply, state_of, call_of, grant_told, grant_form, answer_of, Form, form_of, asked_form, done, StepFollowsThePlainBook, StepEqualsThePlainBookAfterEveryCall}
+use Rattle.runs.specs.Replies.{Reply, parts_of, state_of, call_of, grant_told, grant_form, answer_of, Form, form_of, asked_form, done, StepFollowsThePlainBook, StepEqualsThePlainBookAfterEveryCall}
 use Rattle.runs.proofs.Steps.{nothing_is_some, one_some}
 use Rattle.lines.specs.declared.faults.Untaken.{Untaken}
 use Rattle.lines.specs.declared.faults.Untaken.TheVariants.{WrongState, NoSuchDivision}
@@ -22,7 +22,7 @@ use Rattle.lines.specs.Line.{told_words, granted_words, fault_words, line_text}
 use Rattle.lines.specs.Words.{spaced, hex}
 use Rattle.logs.specs.Session.{Calls, inserts, withdraws, arranges, judges, weighs, settles, locates, reopens, untaken, undivided, called, entry, numbered_meaning}
 use Rattle.logs.specs.Told.{forms, values_words, entry_text, Requested}
-use Rattle.logs.specs.Promised.{PerformsAsPromised, makes_its_call, told_3, told_4}
+use Rattle.logs.specs.Promised.{LineTells, PerformsAsPromised, makes_its_call, told_3, told_4}
 
 -- the line of a granted reply, whose form is that of its code
 pub granted_line : {E : Type 0} (shown : E → Shown) (place code n : ℕ) (reply : Reply E) (grant : Grant E) (told : Told) → reply ≡ Ok grant →
@@ -50,15 +50,16 @@ form_of_code code operands o call reopens e = ap asked_form (sym (one_some e))
 
 -- a command whose call was made
 pub called_line : {E : Type 0} (admits : ℕ → Bool) (shown : E → Shown) (before after : Sheet E (OneOf Janet JanetLike)) (n place code seen : ℕ) (operands : List ℕ)
-    (request : Request E (OneOf Janet JanetLike)) (reply : Reply E) (line : Line) → seen ≡ code → Requested shown (state_of numbered_meaning before) code operands (Ok request) →
+    (request : Request E (OneOf Janet JanetLike)) (reply : Reply E) (line : Line) → n ≡ (parts_of before).header.variables → seen ≡ code → Requested shown (state_of numbered_meaning before) code operands (Ok request) →
     StepFollowsThePlainBook admits shown numbered_meaning before request after reply → StepEqualsThePlainBookAfterEveryCall admits shown numbered_meaning before request after reply →
     (((f : Form) → form_of reply ≡ Some f → get_or forms (seen - 1) done ≡ f) → line_text line ≡ entry_text n (entry place seen (answer_of shown reply))) →
-    PerformsAsPromised admits shown before n place code operands after line
-called_line admits shown before after n place code seen operands request reply line same decided s promised text =
+    PerformsAsPromised admits shown before place code operands after line
+called_line admits shown before after n place code seen operands request reply line of_sheet same decided s promised text =
     let call = call_of shown numbered_meaning request in
     let form : get_or forms (code - 1) done ≡ asked_form call = form_of_code code operands (Some call) call decided.1 refl in
     let fits : (f : Form) → form_of reply ≡ Some f → get_or forms (seen - 1) done ≡ f = λ f e. ap (λ (x : ℕ). get_or forms (x - 1) done) same ∙ form ∙ sym (s.has_its_form f e) in
-    let told : line_text line ≡ entry_text n (entry place code (answer_of shown reply)) = text fits ∙ ap (λ (x : ℕ). entry_text n (entry place x (answer_of shown reply))) same in
+    let told : LineTells admits shown before place code (answer_of shown reply) line =
+    text fits ∙ ap (λ (x : ℕ). entry_text n (entry place x (answer_of shown reply))) same ∙ ap (λ (x : ℕ). entry_text x (entry place code (answer_of shown reply))) of_sheet in
     record {
       stands = s.stands;
       follows_the_plain_book = λ st. (answer_of shown reply, told, called decided.0 decided.1 (s.answered st) (s.follows st));
@@ -66,17 +67,17 @@ called_line admits shown before after n place code seen operands request reply l
     }
 
 -- a command that makes no call
-pub passed_line : {E : Type 0} (admits : ℕ → Bool) (shown : E → Shown) (sheet : Sheet E (OneOf Janet JanetLike)) (n place code seen : ℕ) (operands : List ℕ) (why : Untaken) (line : Line) → seen ≡ code →
+pub passed_line : {E : Type 0} (admits : ℕ → Bool) (shown : E → Shown) (sheet : Sheet E (OneOf Janet JanetLike)) (place code seen : ℕ) (operands : List ℕ) (why : Untaken) (line : Line) → seen ≡ code →
     Requested shown (state_of numbered_meaning sheet) code operands (Err why) → line_text line ≡ spaced (fault_words (record { place = place; code = seen; cause = Session why })) →
-    PerformsAsPromised admits shown sheet n place code operands sheet line
-passed_line admits shown sheet n place code seen operands WrongState line same never text =
+    PerformsAsPromised admits shown sheet place code operands sheet line
+passed_line admits shown sheet place code seen operands WrongState line same never text =
     let told = text ∙ ap (λ (x : ℕ). spaced (decimal place ∷ hex x ∷ codes "no" ∷ decimal 3 ∷ [])) same in
     record {
       stands = λ st. st;
       follows_the_plain_book = λ _. (refused 3 [], told, untaken never);
       after_every_command = λ _ _. (refused 3 [], told, told_3 never);
     }
-passed_line admits shown sheet n place code seen operands NoSuchDivision line same none text =
+passed_line admits shown sheet place code seen operands NoSuchDivision line same none text =
     let told = text ∙ ap (λ (x : ℕ). spaced (decimal place ∷ hex x ∷ codes "no" ∷ decimal 4 ∷ [])) same in
     record {
       stands = λ st. st;

@@ -39,29 +39,34 @@ module _ {E : Type 0} (admits : ℕ → Bool) (shown : E → Shown) where
         TakesCode (state_of numbered_meaning before) code → Calls code operands None →
         AfterCommand h before code operands (refused 4 []) before
 
-  -- a command at a place of a log, on any sheet, and its line, told as on a sheet of n variables:
-  -- where the parts make a sheet it is a step of the book; and whichever history led to the
-  -- sheet, it is as promised after the command too
-  pub record PerformsAsPromised (before : LogSheet E) (n place code : ℕ) (operands : List ℕ)
+  -- the line of a command tells an answer, as on the sheet that the command was performed on
+  abbrev pub LineTells : LogSheet E → ℕ → ℕ → Answer → Line → Type 0
+  LineTells before place code told line =
+      line_text line ≡ entry_text (parts_of before).header.variables (entry place code told)
+
+  -- a command at a place of a log, on any sheet, and its line: where the parts make a sheet it is a
+  -- step of the book; and whichever history led to the sheet, it is as promised after the command
+  -- too
+  pub record PerformsAsPromised (before : LogSheet E) (place code : ℕ) (operands : List ℕ)
       (after : LogSheet E) (line : Line) : Type 0 where
     pub stands : Stands admits shown (parts_of before) → Stands admits shown (parts_of after)
     pub follows_the_plain_book :
         Stands admits shown (parts_of before) →
-        (told : Answer) × (line_text line ≡ entry_text n (entry place code told)) ×
+        (told : Answer) × LineTells before place code told line ×
         Commanded (book_of admits shown numbered_meaning before) code operands told
         (book_of admits shown numbered_meaning after)
     pub after_every_command :
         (h : History) → SheetEqualsThePlainBook admits shown numbered_meaning h before →
-        (told : Answer) × (line_text line ≡ entry_text n (entry place code told)) ×
+        (told : Answer) × LineTells before place code told line ×
         AfterCommand h before code operands told after
 
-  -- the command at the front of a log, if any is left: it is read and performed; a first byte
-  -- that begins no whole command is told, and alters nothing
-  abbrev pub PerformsNextAsPromised : LogSheet E → ℕ → ℕ → List ℕ → LogSheet E → Step → Type 0
-  PerformsNextAsPromised before n place log after End = Reads log nothing × (after ≡ before)
-  PerformsNextAsPromised before n place log after (Performed line rest) =
+  -- the command at the front of a log, if any is left: it is read and performed; a first byte that
+  -- begins no whole command is told, and alters nothing
+  abbrev pub PerformsNextAsPromised : LogSheet E → ℕ → List ℕ → LogSheet E → Step → Type 0
+  PerformsNextAsPromised before place log after End = Reads log nothing × (after ≡ before)
+  PerformsNextAsPromised before place log after (Performed line rest) =
       (code : ℕ) × (operands : List ℕ) × Reads log (command code operands rest.now) ×
-      PerformsAsPromised before n place code operands after line
-  PerformsNextAsPromised before n place log after (Misread line) =
+      PerformsAsPromised before place code operands after line
+  PerformsNextAsPromised before place log after (Misread line) =
       (first : ℕ) × (number : ℕ) × Reads log (misread first number) ×
-      (line_text line ≡ entry_text n (entry place first (refused number []))) × (after ≡ before)
+      LineTells before place first (refused number []) line × (after ≡ before)

@@ -33,7 +33,7 @@ fn report_kind<E: Element>(
     let parts = parts_for::<E>(heap, variables, 64)?;
     match begin(parts) {
         Ok(sheet) => {
-            let (lines, end) = lines_of(heap, sheet, variables, log)?;
+            let (lines, end) = lines_of(heap, sheet, log)?;
             Ok(Report::Log {
                 variables,
                 kind: kind.into(),

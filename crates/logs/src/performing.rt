@@ -1,7 +1,7 @@
 // One command of a log on a sheet, and its line.
 ghost use Rattle.std.specs.Prelude.{◌≡◌, ◌-◌, Some, slice_index_or};
 ghost use Rattle.commands.specs.Read.{code_of, operands_of};
-ghost use Rattle.runs.specs.Replies.{grant_told, grant_form, answer_of, Form, form_of, done};
+ghost use Rattle.runs.specs.Replies.{parts_of, grant_told, grant_form, answer_of, Form, form_of, done};
 ghost use Rattle.lines.specs.Line.{told_words, line_text};
 ghost use Rattle.logs.specs.Session.{entry};
 ghost use Rattle.logs.specs.Told.{forms, values_words, entry_text};
@@ -57,17 +57,27 @@ pub(crate) fn line_of<E: Element>(place: usize, code: u8, variables: u8, reply: 
     })
 }
 
+// How many variables a sheet has.
+fn variables_of<E>(sheet: &Sheet<E, OneOf<Janet, JanetLike>>) -> u8
+    ensures { result ≡ (parts_of sheet.now).header.variables }
+{
+    match sheet {
+        Sheet::Open(open) => open.parts.header.variables,
+        Sheet::Settled(settled) => settled.parts.header.variables,
+    }
+}
+
 // Performs a command that stands at a place, and gives its line.
 pub(crate) fn perform<E: Element>(
     sheet: Sheet<E, OneOf<Janet, JanetLike>>,
-    variables: u8,
     place: usize,
     command: &Command,
 ) -> (Sheet<E, OneOf<Janet, JanetLike>>, Line)
-    ensures { PerformsAsPromised E.admitted E.shown sheet variables place
+    ensures { PerformsAsPromised E.admitted E.shown sheet place
         (code_of command.now) (operands_of command.now) result.0 result.1 }
 {
     let code = u8::from(*command);
+    let variables = variables_of(&sheet);
     match request_of(&sheet, command) {
         Ok(request) => {
             let (next, reply) = step(sheet, &request);

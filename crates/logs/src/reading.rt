@@ -30,17 +30,16 @@ pub enum Step<'a> {
 // It allocates nothing.
 pub fn perform_next<'a, E: Element>(
     sheet: Sheet<E, OneOf<Janet, JanetLike>>,
-    variables: u8,
     place: usize,
     log: &'a [u8],
 ) -> (Sheet<E, OneOf<Janet, JanetLike>>, Step<'a>)
     ensures { PerformsNextAsPromised E.admitted E.shown
-        sheet variables place log.now result.0 result.1 }
+        sheet place log.now result.0 result.1 }
 {
     match read(log) {
         Ok(None) => (sheet, Step::End),
         Ok(Some(Reading { command, rest })) => {
-            let (next, line) = perform(sheet, variables, place, &command);
+            let (next, line) = perform(sheet, place, &command);
             (next, Step::Performed { line, rest })
         }
         Err(Misreading { code, cause }) => {
@@ -57,13 +56,12 @@ pub fn perform_next<'a, E: Element>(
 pub(crate) fn lines_of<E: Element>(
     heap: Global,
     sheet: Sheet<E, OneOf<Janet, JanetLike>>,
-    variables: u8,
     log: &[u8],
 ) -> Result<(Vec<Line>, usize), AllocError>
     requires few { length log.now ≤ 65534 }
     requires stands { Stands E.admitted E.shown (parts_of sheet) }
     ensures { let book = book_of E.admitted E.shown numbered_meaning sheet in
-        IfOk result (λ t. Lines variables book log.now t.0.items t.1) }
+        IfOk result (λ t. Lines book.n book log.now t.0.items t.1) }
 {
     let mut sheet = sheet;
     let mut rest = log;
@@ -73,7 +71,7 @@ pub(crate) fn lines_of<E: Element>(
     // what is left of the log is handed on as a part: no byte is read twice, and none past the end
     'log: loop {
         let place = bytes - rest.len();
-        let (next, step) = perform_next(sheet, variables, place, rest);
+        let (next, step) = perform_next(sheet, place, rest);
         sheet = next;
         match step {
             Step::End => break 'log Ok((lines, place)),

@@ -1,5 +1,5 @@
 -- Every call keeps a book sound. Assumes nothing.
-use Rattle.std.proofs.Common.{◌≡◌, ℕ, ◌≤◌, Bool, List, [], ◌∷◌, ◌++◌, length, sym, refl, subst, inl, inr, arith}
+use Rattle.std.proofs.Common.{◌≡◌, ℕ, ◌≤◌, Bool, List, [], ◌∷◌, ◌++◌, length, sym, refl, ap, subst, inl, inr, arith}
 use Rattle.std.proofs.lemmas.List.{length_push, length-append}
 use Rattle.elements.specs.Element.{Shown}
 use Rattle.orderings.specs.Order.{VariableCount, IsOrdering}
@@ -115,6 +115,29 @@ pub every_call_keeps_books_sound : (b c : Book) (call : Call) → LawfulCall cal
 every_call_keeps_books_sound b c call law sound follows = elim (refused_or_held (λ _. b) (Becomes b call) (checks b call) c follows) [
   | inl r ↦ subst Sound (sym r.1) sound
   | inr h ↦ becomes_sound b sound call c law h.0 h.1
+]
+
+-- no call alters the count of variables
+becomes_keeps_n : (b c : Book) (call : Call) → Becomes b call c → c.n ≡ b.n
+becomes_keeps_n b c (insert e) e' = ap (λ (x : Book). x.n) e'
+becomes_keeps_n b c (withdraw e) (front, back, split, e') = ap (λ (x : Book). x.n) e'
+becomes_keeps_n b c (arrange o) e' = ap (λ (x : Book). x.n) e'
+becomes_keeps_n b c (bar p v) e' = ap (λ (x : Book). x.n) e'
+becomes_keeps_n b c (limit d p v) e' = ap (λ (x : Book). x.n) e'
+becomes_keeps_n b c (verdict d) e' = ap (λ (x : Book). x.n) e'
+becomes_keeps_n b c (weigh d o) e' = ap (λ (x : Book). x.n) e'
+becomes_keeps_n b c (settle d) s = settles_keeps_n b d c s
+  where
+    settles_keeps_n : (b : Book) (d : Meaning) (c : Book) → Settles b d c → c.n ≡ b.n
+    settles_keeps_n b d c (first best) = refl
+    settles_keeps_n b d c (none never) = refl
+becomes_keeps_n b c (locate e) e' = ap (λ (x : Book). x.n) e'
+becomes_keeps_n b c reopen e' = ap (λ (x : Book). x.n) e'
+
+pub every_call_keeps_n : (b c : Book) (call : Call) → Follows b call c → c.n ≡ b.n
+every_call_keeps_n b c call follows = elim (refused_or_held (λ _. b) (Becomes b call) (checks b call) c follows) [
+  | inl r ↦ ap (λ (x : Book). x.n) r.1
+  | inr h ↦ becomes_keeps_n b c call h.1
 ]
 
 pub every_run_keeps_books_sound : (b c : Book) (calls : List Call) (answers : List Answer) → Sound b → LawfulCalls calls → Run b calls answers c → Sound c
