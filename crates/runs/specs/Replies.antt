@@ -1,5 +1,5 @@
--- How requests, replies and sheets of either state are read as calls, answers and books, and what is
--- promised of them. Assumes nothing.
+-- How requests, replies and sheets of either state are read as calls, answers and books, and what
+-- is promised of them. Assumes nothing.
 use Rattle.std.specs.Prelude.{◌≡◌, ℕ, Bool, List, [], ◌∷◌, map, Some, None, Ok, Err, vec_len, Option, Result}
 use Rattle.elements.specs.Element.{Shown}
 use Rattle.orderings.specs.Answer.{Answer, granted, refused, refusal, Answers}

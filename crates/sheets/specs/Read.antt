@@ -1,5 +1,5 @@
 -- How the parts of a sheet are read, and what a call on them comes to. Assumes nothing.
-use Rattle.std.specs.Prelude.{◌≡◌, ℕ, Bool, cond, List, [], ◌∷◌, map, take, IfOk, Ok, Err, vec_items, vec_len, Result, MatchResult}
+use Rattle.std.specs.Prelude.{◌≡◌, ℕ, Bool, if◌then◌else◌, List, [], ◌∷◌, map, take, IfOk, Ok, Err, vec_items, vec_len, Result, MatchResult}
 use Rattle.elements.specs.Element.{Shown}
 use Rattle.orderings.specs.Answer.{Answer, granted, refused, refusal, Answers}
 use Rattle.divisions.specs.Laws.{Meaning}
@@ -16,12 +16,12 @@ use Rattle.sheets.specs.History.{History, just_opened, and_then, OpenedThenWentT
 
 -- bar's values
 abbrev pub bar_told : Bar → List ℕ
-bar_told b = b.number ∷ cond b.star 1 0 ∷ []
+bar_told b = b.number ∷ (if b.star then 1 else 0) ∷ []
 
 -- the values of a verdict
 abbrev pub verdict_told : {E : Type 0} → (E → Shown) → Verdict E → List ℕ
 verdict_told shown v =
-    cond v.complete 1 0 ∷ v.place ∷ v.variable ∷ v.power ∷ element_told (shown v.element)
+    (if v.complete then 1 else 0) ∷ v.place ∷ v.variable ∷ v.power ∷ element_told (shown v.element)
 
 -- the values of a settling
 abbrev pub served_told : Served → List ℕ
@@ -49,7 +49,8 @@ module _ {E : Type 0} (admits : ℕ → Bool) (shown : E → Shown) where
   -- the parts make a sheet of the kind
   abbrev pub Stands : Parts E → Type 0
   Stands p =
-      Makes admits p.header.variables p.header.rows (map shown (vec_items p.table)) (vec_items p.order)
+      Makes admits p.header.variables p.header.rows
+      (map shown (vec_items p.table)) (vec_items p.order)
 
   -- the parts, with a state, as a book
   abbrev pub book : State → Parts E → Book

@@ -58,7 +58,9 @@ fn natural_order(n: u8) -> [u8; 8]
 
 // Why no sheet can be opened over the parts, if none can.
 fn openable<E: Element>(parts: &Parts<E>) -> Result<(), Refusal>
-    ensures { Answers (open_asks parts.now.header.variables (vec_len parts.now.table) (vec_len parts.now.order)) (λ a. a ≡ granted []) (answer (λ _. []) result) }
+    ensures { let places = vec_len parts.now.table in
+        Answers (open_asks parts.now.header.variables places (vec_len parts.now.order))
+        (λ a. a ≡ granted []) (answer (λ _. []) result) }
 {
     if !is_variable_count(parts.header.variables) {
         return Err(Refusal::VariableCount);

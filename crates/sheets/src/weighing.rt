@@ -20,7 +20,10 @@ impl<E: Element> Standing<'_, E> {
     fn verdict_under<D: Division>(&self, division: &D, order: &[u8]) -> Verdict<E>
         requires ordered { IsOrdering self.now.parts.now.header.variables order.now }
         requires some { 1 ≤ self.now.parts.now.header.rows }
-        ensures { TellsVerdict self.now.parts.now.header.variables (take self.now.parts.now.header.rows (map E.Element.shown self.now.parts.now.table.items)) (D.Division.meaning division.now (take self.now.parts.now.header.rows (map E.Element.shown self.now.parts.now.table.items)) order.now) (granted (verdict_told E.Element.shown result)) }
+        ensures { let parts = self.now.parts.now in
+            let rows = take parts.header.rows (map E.shown parts.table.items) in
+            let limits = D.meaning division.now rows order.now in
+            TellsVerdict parts.header.variables rows limits (granted (verdict_told E.shown result)) }
     {
         let rows = self.rows();
         match shortfall_by(
