@@ -19,7 +19,8 @@ use sheets::parts::*;
 
 // What a grant tells, on a sheet of so many variables. Bar and limit are no commands.
 fn told_of<E: Element>(variables: u8, grant: &Grant<E>) -> Told
-    ensures { told_words result ≡ values_words (grant_form grant.now) variables (grant_told E.Element.shown grant.now) }
+    ensures { told_words result ≡
+        values_words (grant_form grant.now) variables (grant_told E.shown grant.now) }
 {
     match grant {
         Grant::Done | Grant::Bar(_) | Grant::Limit(_) => Told::Nothing,
@@ -40,7 +41,8 @@ fn told_of<E: Element>(variables: u8, grant: &Grant<E>) -> Told
 
 // The line of a command that was answered so, on a sheet of so many variables.
 pub(crate) fn line_of<E: Element>(place: usize, code: u8, variables: u8, reply: Reply<E>) -> Line
-    ensures { ((f : Form) → form_of reply ≡ Some f → slice_index_or forms (code - 1) done ≡ f) → line_text result ≡ entry_text variables (entry place code (answer_of E.Element.shown reply)) }
+    ensures { ((f : Form) → form_of reply ≡ Some f → slice_index_or forms (code - 1) done ≡ f) →
+        line_text result ≡ entry_text variables (entry place code (answer_of E.shown reply)) }
 {
     Line(match reply {
         Ok(grant) => {

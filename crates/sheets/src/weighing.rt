@@ -23,7 +23,8 @@ impl<E: Element> Standing<'_, E> {
         ensures { let parts = self.now.parts.now in
             let rows = take parts.header.rows (map E.shown parts.table.items) in
             let limits = D.meaning division.now rows order.now in
-            TellsVerdict parts.header.variables rows limits (granted (verdict_told E.shown result)) }
+            let told = granted (verdict_told E.shown result) in
+            TellsVerdict parts.header.variables rows limits told }
     {
         let rows = self.rows();
         match shortfall_by(
