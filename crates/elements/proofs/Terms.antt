@@ -19,7 +19,8 @@ entry_none xs zero h = refl
 entry_none xs (suc k) h = absurd (omega arith)
 
 -- what holds at the eight places holds of every variable
-pub each_variable : (a b : List ℕ) → length a ≡ 8 → ((k : ℕ) → k < 8 → get_or a k 0 ≤ get_or b k 0) → (v : ℕ) → entry a v ≤ entry b v
+pub each_variable : (a b : List ℕ) → length a ≡ 8 → ((k : ℕ) → k < 8 → get_or a k 0 ≤ get_or b k 0) → (v : ℕ) →
+    entry a v ≤ entry b v
 each_variable a b n h zero = omega arith
 each_variable a b n h (suc k) = elim (cases_lt k 8) [
   | inl l ↦ h k l
@@ -27,10 +28,12 @@ each_variable a b n h (suc k) = elim (cases_lt k 8) [
 ]
 
 -- eight exponents are a term by what stands at each place
-pub term_by_places : (f : ℕ → ℕ) (xs : List ℕ) → length xs ≡ 8 → ((k : ℕ) → k < 8 → get_or xs k 0 ≡ f (suc k)) → xs ≡ term f
+pub term_by_places : (f : ℕ → ℕ) (xs : List ℕ) → length xs ≡ 8 → ((k : ℕ) → k < 8 → get_or xs k 0 ≡ f (suc k)) →
+    xs ≡ term f
 term_by_places f xs n h =
     ext_get_or 0 xs (term f) (n ∙ sym (length-map-range_with_len f 1 8))
-    (λ k l. let small : k < 8 = omega arith in h k small ∙ sym (get_or-map-range_with_len f 1 8 k (suc k) 0 small (omega arith)))
+    (λ k l. let small : k < 8 = omega arith in
+    h k small ∙ sym (get_or-map-range_with_len f 1 8 k (suc k) 0 small (omega arith)))
 
 -- the exponent of a variable in a term
 pub entry_term : (f : ℕ → ℕ) (v : ℕ) → Variable v → entry (term f) v ≡ f v
@@ -46,13 +49,15 @@ power_by_set v m r =
       | inl e ↦ (let at : v - 1 ≡ k = omega arith in
           rw at (get_or-set_same (replicate 8 0) k m 0 l) ∙ sym (cond-true (eqb (suc k) v) m 0 (eq-eqb (suc k) v e)))
       | inr d ↦ (let other : k ≡ v - 1 → ⊥ = λ e. d (omega (arith, r.low)) in
-          get_or-set_other (replicate 8 0) (v - 1) k m 0 other ∙ get_or-replicate 8 k 0 0 l ∙ sym (cond-false (eqb (suc k) v) m 0 (ne_eqb (suc k) v d)))
+          get_or-set_other (replicate 8 0) (v - 1) k m 0 other ∙ get_or-replicate 8 k 0 0 l ∙
+          sym (cond-false (eqb (suc k) v) m 0 (ne_eqb (suc k) v d)))
     ])
 
 -- elements that show the same family and the same exponents show the same
 pub shown_path : (u w : Shown) → u.family ≡ w.family → u.exponents ≡ w.exponents → u ≡ w
 shown_path u w e f =
-    ap (λ (x : ℕ). record { family = x; exponents = u.exponents }) e ∙ ap (λ (y : List ℕ). record { family = w.family; exponents = y }) f
+    ap (λ (x : ℕ). record { family = x; exponents = u.exponents }) e ∙
+    ap (λ (y : List ℕ). record { family = w.family; exponents = y }) f
 
 pub product_family : (u : Shown) (t : List ℕ) → (product u t).family ≡ u.family
 unfolding product
@@ -82,16 +87,22 @@ module _ (u w : Shown) (a b : List ℕ) (ea : a ≡ u.exponents) (eb : b ≡ w.e
 
   -- the pairs of exponents at one place, each tested
   pub divides_by_pairs : (r : Bool) → length a ≡ 8 → length b ≡ 8 → u.family ≡ w.family →
-      MatchBool r (AllWithin (λ p. p.0 ≤ p.1) (zip a b) 0 (length (zip a b))) ((k : ℕ) × (k < length (zip a b)) × HoldsAt (λ p. p.1 < p.0) (zip a b) k) →
+      MatchBool r (AllWithin (λ p. p.0 ≤ p.1) (zip a b) 0 (length (zip a b)))
+      ((k : ℕ) × (k < length (zip a b)) × HoldsAt (λ p. p.1 < p.0) (zip a b) k) →
       Decides r (Divides u w)
-  divides_by_pairs true n m f h =
-      (λ _. at_each n f (λ k l. rw (get_or-zip a b k (0, 0) (omega (arith, n)) (omega (arith, m))) at (h k (0, 0) (omega arith) (omega (arith, length-zip a b, n, m)))), λ _. refl)
+  divides_by_pairs true n m f h = (
+    λ _. at_each n f (λ k l. rw (get_or-zip a b k (0, 0) (omega (arith, n)) (omega (arith, m))) at
+        (h k (0, 0) (omega arith) (omega (arith, length-zip a b, n, m)))),
+    λ _. refl,
+  )
   divides_by_pairs false n m f (k, l, h) =
-      let at = rw (get_or-zip a b k (0, 0) (omega (arith, length-zip a b, n, m)) (omega (arith, length-zip a b, n, m))) at (h (0, 0)) in
+      let at = rw (get_or-zip a b k (0, 0) (omega (arith, length-zip a b, n, m)) (omega (arith, length-zip a b, n, m)))
+      at (h (0, 0)) in
       (λ e. absurd (false≢true e), λ d. absurd (not_at k at d))
 
   -- differences that are written place by place
-  pub quotient_written : (xs : List ℕ) → length xs ≡ 8 → ((k : ℕ) → k < 8 → get_or xs k 0 ≡ get_or b k 0 - get_or a k 0) → xs ≡ quotient u w
+  pub quotient_written : (xs : List ℕ) → length xs ≡ 8 →
+      ((k : ℕ) → k < 8 → get_or xs k 0 ≡ get_or b k 0 - get_or a k 0) → xs ≡ quotient u w
   quotient_written xs n h = quotient_by_places u w xs n (rw (← ea, ← eb) h)
 
   -- no place of a divisor is greater
@@ -102,15 +113,18 @@ module _ (u w : Shown) (a b : List ℕ) (ea : a ≡ u.exponents) (eb : b ≡ w.e
   pub quotient_back : (xs : List ℕ) → length xs ≡ 8 → length b ≡ 8 → Divides u w →
       ((k : ℕ) → k < 8 → get_or xs k 0 ≡ get_or b k 0 - get_or a k 0) → product u xs ≡ w
   quotient_back xs n m d h =
-      let e : b ≡ (product u xs).exponents = product_by_places u xs b m (λ k l. rw (← ea) (omega (arith, place_of d k, h k l))) in
+      let e : b ≡ (product u xs).exponents = product_by_places u xs b m
+      (λ k l. rw (← ea) (omega (arith, place_of d k, h k l))) in
       shown_path _ _ (product_family u xs ∙ d.family) (sym e ∙ eb)
 
 -- a sum that does not fit 16 bits
-pub overflows_at : (u : Shown) (a t : List ℕ) → a ≡ u.exponents → (k x : ℕ) → x ≡ get_or a k 0 → (x + get_or t k 0 < 65536 → ⊥) → Overflows u t
+pub overflows_at : (u : Shown) (a t : List ℕ) → a ≡ u.exponents → (k x : ℕ) → x ≡ get_or a k 0 →
+    (x + get_or t k 0 < 65536 → ⊥) → Overflows u t
 overflows_at u a t e k x is none = (suc k, rw (← e, ← is) (omega (arith, none)))
 
 -- sums that are written place by place, in an element
-pub product_written : (u p : Shown) (a t xs : List ℕ) (f : ℕ) → a ≡ u.exponents → f ≡ u.family → p ≡ record { family = f; exponents = xs } →
+pub product_written : (u p : Shown) (a t xs : List ℕ) (f : ℕ) → a ≡ u.exponents → f ≡ u.family →
+    p ≡ record { family = f; exponents = xs } →
     length xs ≡ 8 → ((k : ℕ) → k < 8 → get_or xs k 0 ≡ get_or a k 0 + get_or t k 0) → p ≡ product u t
 product_written u p a t xs f ea ef ep n h =
     ep ∙ shown_path _ _ (ef ∙ sym (product_family u t)) (product_by_places u t xs n (rw (← ea) h))
@@ -122,7 +136,8 @@ power_entry v m zero = omega arith
 power_entry v m (suc k) = elim (cases_lt k 8) [
   | inl l ↦ (let e = entry_term (λ x. cond (eqb x v) m 0) (suc k) (record { low = omega arith; high = l }) in
       rw e (cond_both (eqb (suc k) v) m 0 (λ y. y ≤ m) (λ _. omega arith) (λ _. omega arith)))
-  | inr l ↦ (let e = entry_past (term (λ x. cond (eqb x v) m 0)) (suc k) (omega (arith, length-map-range_with_len (λ x. cond (eqb x v) m 0) 1 8)) in
+  | inr l ↦ (let e = entry_past (term (λ x. cond (eqb x v) m 0)) (suc k)
+      (omega (arith, length-map-range_with_len (λ x. cond (eqb x v) m 0) 1 8)) in
       omega (arith, e))
 ]
 

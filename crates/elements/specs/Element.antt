@@ -1,5 +1,5 @@
 -- Elements by what they show, over natural numbers of any size. Assumes nothing.
-use Rattle.std.specs.Prelude.{◌≡◌, ℕ, ◌+◌, ◌-◌, ◌<◌, ◌≤◌, cond, List, ◌∷◌, map, replicate, ◌==◌, slice_index}
+use Rattle.std.specs.Prelude.{◌≡◌, ℕ, ◌+◌, ◌-◌, ◌<◌, ◌≤◌, if◌then◌else◌, List, ◌∷◌, map, replicate, ◌==◌, slice_index}
 use Rattle.std.specs.List.{range_with_len}
 
 -- an element: the number of its family, and the exponents of variables 1, 2, .. in this order
@@ -7,10 +7,11 @@ pub record Shown : Type 0 where
   pub family : ℕ
   pub exponents : List ℕ
 
--- the exponent of variable v, which counts from 1, in a list of exponents; 0 where there is no such variable
+-- the exponent of variable v, which counts from 1, in a list of exponents; 0 where there is none
 abbrev pub entry : List ℕ → ℕ → ℕ
 entry exponents v = slice_index (0 ∷ exponents) v
 
+-- the exponent of variable v in an element
 abbrev pub exponent : Shown → ℕ → ℕ
 exponent e v = entry e.exponents v
 
@@ -25,7 +26,7 @@ term f = map f (range_with_len 1 8)
 
 -- variable v to the power m
 unfoldable pub power : ℕ → ℕ → List ℕ
-power v m = term (λ x. cond (x == v) m 0)
+power v m = term (λ x. if x == v then m else 0)
 
 -- u times a term
 unfoldable pub product : Shown → List ℕ → Shown
@@ -47,6 +48,10 @@ pub record Variable (v : ℕ) : Type 0 where
 -- w / u, where u divides w: the term of the differences
 unfoldable pub quotient : Shown → Shown → List ℕ
 quotient u w = term (λ v. exponent w v - exponent u v)
+
+-- u divides w, and t is the term w / u
+abbrev pub IsQuotient : Shown → Shown → List ℕ → Type 0
+IsQuotient u w t = Divides u w × (t ≡ quotient u w)
 
 -- what stands in a place without a row
 abbrev pub blank : Shown

@@ -1,62 +1,62 @@
-// Elements: what every kind of element offers, the two kinds in use, and arithmetic that is written once for all kinds.
+// Elements: what every kind offers, the two kinds in use, and arithmetic written once for all.
 #![tactic(auto)]
 
-ghost use Rattle.std.specs.Prelude.{◌≡◌, ℕ, ◌≤◌, Bool, true, ◌&&◌, ◌⊎◌, is_some, IfSome, Decides, MatchOption, ◌==◌, nat_le};
-ghost use Rattle.elements.specs.Element.{Shown, exponent, Divides, Variable, Overflows, power as to_the, product as multiplied, times, quotient as divided, blank as nothing};
+ghost use Rattle.std.specs.Prelude.{◌≡◌, ℕ, ◌≤◌, Bool, true, ◌&&◌, ◌⊎◌, IsSome, IfSome, MatchOption, ◌==◌, nat_le, IsTrue, ◌↔◌};
+ghost use Rattle.elements.specs.Element.{Shown, exponent, Divides, IsQuotient, Variable, Overflows, power as to_the, product as multiplied, times, blank as nothing};
 ghost use Rattle.std.proofs.Common.{ap};
 
 use std::array;
 
-// A kind of element. An element shows a family and eight exponents, and is known by them.
+/// An element: it shows a family and eight exponents, and is read by nothing else.
 pub trait Element: Copy + Clone {
     ghost shown: { Self → Shown };
 
-    // The families that the kind admits.
-    ghost admitted: { ℕ → Bool };
-
-    fn make(family: u8, exponents: [u16; 8]) -> Self
-        ensures { shown result ≡ record { family = family; exponents = exponents } };
-
+    /// The number of the family.
     fn family(&self) -> u8
         ensures { result ≡ (shown self.now).family };
 
+    /// The exponents of variables 1 to 8, in this order.
     fn exponents(&self) -> [u16; 8]
         ensures { result ≡ (shown self.now).exponents };
 
-    // The exponent of a variable, which counts from 1: 0 where there is no such variable.
+    /// The exponent of a variable, which counts from 1: 0 where there is no such variable.
     fn exponent(&self, variable: u8) -> u16
         ensures { result ≡ exponent (shown self.now) variable };
+}
 
+/// A kind of element: a type of elements that are known by what they show and can be made of it,
+/// and the families that it admits.
+pub trait Kind: Element {
+    // The families that the kind admits.
+    ghost admitted: { ℕ → Bool };
+
+    /// The element that shows a family, admitted or not, and exponents.
+    fn make(family: u8, exponents: [u16; 8]) -> Self
+        ensures { Self.shown result ≡ record { family = family; exponents = exponents } };
+
+    /// Whether the kind admits a family.
     fn admits(family: u8) -> bool
         ensures { result ≡ admitted family };
 
-    // Two elements that show the same are the same.
-    ghost known: { (x y : Self) → shown x ≡ shown y → x ≡ y };
+    // Two elements of a kind that show the same are the same.
+    ghost known: { (x y : Self) → Self.shown x ≡ Self.shown y → x ≡ y };
 }
 
-// A term with a family from LEAST to GREATEST.
+/// A term with a family from `LEAST` to `GREATEST`.
 #[derive(Clone, Copy, PartialEq, Eq, Debug)]
 pub struct Term<const LEAST: u8, const GREATEST: u8> {
     family: u8,
     exponents: [u16; 8],
 }
 
-// A plain term: its only family is 0.
+/// A plain term: its only family is 0.
 pub type PlainTerm = Term<0, 0>;
 
-// A derivative: its family, from 1 to 16, is the number of its unknown function.
+/// A derivative: its family, from 1 to 16, is the number of its unknown function.
 pub type Derivative = Term<1, 16>;
 
 impl<const LEAST: u8, const GREATEST: u8> Element for Term<LEAST, GREATEST> {
     ghost shown = { λ t. record { family = t.family; exponents = t.exponents } };
-
-    ghost admitted = { λ f. nat_le LEAST f && nat_le f GREATEST };
-
-    ghost known = { λ _ _ e. ap (λ (s : Shown). record { family = s.family; exponents = s.exponents }) e };
-
-    fn make(family: u8, exponents: [u16; 8]) -> Self {
-        Term { family, exponents }
-    }
 
     fn family(&self) -> u8 {
         self.family
@@ -71,36 +71,47 @@ impl<const LEAST: u8, const GREATEST: u8> Element for Term<LEAST, GREATEST> {
         let index = usize::from(variable).wrapping_sub(1);
         self.exponents.get(index).copied().unwrap_or(0)
     }
+}
+
+impl<const LEAST: u8, const GREATEST: u8> Kind for Term<LEAST, GREATEST> {
+    ghost admitted = { λ f. nat_le LEAST f && nat_le f GREATEST };
+
+    ghost known = { λ _ _ e.
+        ap (λ (s : Shown). record { family = s.family; exponents = s.exponents }) e };
+
+    fn make(family: u8, exponents: [u16; 8]) -> Self {
+        Term { family, exponents }
+    }
 
     fn admits(family: u8) -> bool {
         (LEAST..=GREATEST).contains(&family)
     }
 }
 
-// The families of the two kinds in use.
+/// The families of the two kinds in use. It does nothing: its contract states them.
 pub fn kinds_in_use()
-    ensures plain_term { (f : ℕ) → ⟦<PlainTerm as Element>⟧.admitted f ≡ (f == 0) }
-    ensures derivative { (f : ℕ) → ⟦<Derivative as Element>⟧.admitted f ≡ (nat_le 1 f && nat_le f 16) }
+    ensures plain_term { (f : ℕ) → ⟦<PlainTerm as Kind>⟧.admitted f ≡ (f == 0) }
+    ensures derivative { (f : ℕ) → ⟦<Derivative as Kind>⟧.admitted f ≡ (nat_le 1 f && nat_le f 16) }
 {}
 
-// What stands in a place without a row, in either kind: family 0, every exponent 0.
-pub fn blank<E: Element>() -> E
-    ensures { E.Element.shown result ≡ nothing }
+/// What stands in a place without a row, in either kind: family 0, every exponent 0.
+pub fn blank<E: Kind>() -> E
+    ensures { E.shown result ≡ nothing }
 {
     E::make(0, [0; 8])
 }
 
-// Whether two elements are the same, by what they show. It is no `==`: to ask a kind for that would ask more of it than its laws need,
-// and be no plainer.
-pub fn same<E: Element>(a: &E, b: &E) -> bool
-    ensures { Decides result (a.now ≡ b.now) }
+/// Whether two elements are the same, by what they show.
+// It is no `==`: to ask a kind for that would ask more of it than its laws need, and be no plainer.
+pub fn same<E: Kind>(a: &E, b: &E) -> bool
+    ensures { IsTrue result ↔ (a.now ≡ b.now) }
 {
     a.family() == b.family() && a.exponents() == b.exponents()
 }
 
-// Whether the divisor divides the multiple.
+/// Whether the divisor divides the multiple.
 pub fn divides<E: Element>(divisor: &E, multiple: &E) -> bool
-    ensures { Decides result (Divides (E.Element.shown divisor.now) (E.Element.shown multiple.now)) }
+    ensures { IsTrue result ↔ Divides (E.shown divisor.now) (E.shown multiple.now) }
 {
     if divisor.family() != multiple.family() {
         return false;
@@ -112,10 +123,11 @@ pub fn divides<E: Element>(divisor: &E, multiple: &E) -> bool
         .all(|(least, given)| least <= given)
 }
 
-// The multiple over the divisor: the term of the differences, or none where the divisor does not divide it.
+/// The multiple over the divisor: the term of the differences of the exponents.
 pub fn quotient<E: Element>(divisor: &E, multiple: &E) -> Option<[u16; 8]>
-    ensures value { MatchOption result (Divides (E.Element.shown divisor.now) (E.Element.shown multiple.now) → ⊥) (λ t. Divides (E.Element.shown divisor.now) (E.Element.shown multiple.now) × (t ≡ divided (E.Element.shown divisor.now) (E.Element.shown multiple.now))) }
-    ensures back { IfSome result (λ t. multiplied (E.Element.shown divisor.now) t ≡ E.Element.shown multiple.now) }
+    ensures value { let u = E.shown divisor.now in let w = E.shown multiple.now in
+        MatchOption result (¬ Divides u w) (IsQuotient u w) }
+    ensures back { IfSome result (λ t. multiplied (E.shown divisor.now) t ≡ E.shown multiple.now) }
 {
     if !divides(divisor, multiple) {
         return None;
@@ -124,9 +136,9 @@ pub fn quotient<E: Element>(divisor: &E, multiple: &E) -> Option<[u16; 8]>
     Some(array::from_fn(|i| large[i] - small[i]))
 }
 
-// A variable to a power: none where the number is not one of a variable.
+/// A variable to a power, as a term.
 pub fn power(variable: u8, degree: u16) -> Option<[u16; 8]>
-    ensures { MatchOption result (Variable variable → ⊥) (λ t. t ≡ to_the variable degree) }
+    ensures { MatchOption result (¬ Variable variable) (λ t. t ≡ to_the variable degree) }
 {
     if variable < 1 || variable > 8 {
         return None;
@@ -136,9 +148,10 @@ pub fn power(variable: u8, degree: u16) -> Option<[u16; 8]>
     Some(term)
 }
 
-// An element times a term: none where an exponent would pass 65,535.
-pub fn product<E: Element>(element: &E, term: &[u16; 8]) -> Option<E>
-    ensures { MatchOption result (Overflows (E.Element.shown element.now) term.now) (λ p. E.Element.shown p ≡ multiplied (E.Element.shown element.now) term.now) }
+/// An element times a term, where no exponent passes 65,535.
+pub fn product<E: Kind>(element: &E, term: &[u16; 8]) -> Option<E>
+    ensures { let u = E.shown element.now in
+        MatchOption result (Overflows u term.now) (λ p. E.shown p ≡ multiplied u term.now) }
 {
     let mut sums = element.exponents();
     // by index: what is written through a zip of `iter_mut` is not known afterwards
@@ -148,11 +161,13 @@ pub fn product<E: Element>(element: &E, term: &[u16; 8]) -> Option<E>
     Some(E::make(element.family(), sums))
 }
 
-// An element times a power of a variable: none where the number is not one of a variable, or the exponent would pass 65,535.
-// Exponents of at most 4,095 and powers of at most 4,096 always have their product.
-pub fn times_power<E: Element>(element: &E, variable: u8, degree: u16) -> Option<E>
-    ensures value { MatchOption result ((Variable variable → ⊥) ⊎ Overflows (E.Element.shown element.now) (to_the variable degree)) (λ p. E.Element.shown p ≡ times (E.Element.shown element.now) variable degree) }
-    ensures small { Variable variable → ((v : ℕ) → exponent (E.Element.shown element.now) v ≤ 4095) → degree ≤ 4096 → is_some result ≡ true }
+/// An element times a power of a variable, where the exponent does not pass 65,535.
+pub fn times_power<E: Kind>(element: &E, variable: u8, degree: u16) -> Option<E>
+    ensures value { let u = E.shown element.now in
+        MatchOption result ((¬ Variable variable) ⊎ Overflows u (to_the variable degree))
+        (λ p. E.shown p ≡ times u variable degree) }
+    ensures small { Variable variable → ((v : ℕ) → exponent (E.shown element.now) v ≤ 4095) →
+        degree ≤ 4096 → IsSome result }
 {
     product(element, &power(variable, degree)?)
 }

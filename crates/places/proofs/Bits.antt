@@ -8,7 +8,8 @@ use Rattle.std.proofs.Math.Nat.{one-mul, mod-eq_of_lt}
 use Rattle.std.specs.Int.{bit_at, trailing_zeros}
 use Rattle.places.specs.Places.{among}
 
-pub put_in : (n k : ℕ) → k < 64 → (p : ℕ) → among (bit_or n (1 * 2 ^ k % 18446744073709551616)) p ≡ (eqb p k || among n p)
+pub put_in : (n k : ℕ) → k < 64 →
+    (p : ℕ) → among (bit_or n (1 * 2 ^ k % 18446744073709551616)) p ≡ (eqb p k || among n p)
 put_in n k l p = elim (cases_eq p k) [
   | inl e ↦ rw (e, bit_at_set_same w64 n k l, eq-eqb k k refl) refl
   | inr d ↦ rw (bit_at_set_other w64 n k l p d, ne_eqb p k d) refl
@@ -26,7 +27,13 @@ module _ (n k : ℕ) (l : k < 64) (fits : n < 18446744073709551616) where
     | inl e ↦ rw (e, bit_at_clear_same w64 n k l, eq-eqb k k refl) refl
     | inr d ↦ elim (cases_lt p 64) [
       | inl low ↦ rw (bit_at_clear_other w64 n k l p low d, ne_eqb p k d) refl
-      | inr high ↦ rw (bit_at_and n (18446744073709551615 - 1 * 2 ^ k % 18446744073709551616) p, bit_at_above n 64 p fits high, min_zero (bit_at (18446744073709551615 - 1 * 2 ^ k % 18446744073709551616) p), ne_eqb p k d) refl
+      | inr high ↦
+          rw (
+            bit_at_and n (18446744073709551615 - 1 * 2 ^ k % 18446744073709551616) p,
+            bit_at_above n 64 p fits high,
+            min_zero (bit_at (18446744073709551615 - 1 * 2 ^ k % 18446744073709551616) p),
+            ne_eqb p k d,
+          ) refl
     ]
   ]
 
@@ -34,7 +41,8 @@ module _ (n k : ℕ) (l : k < 64) (fits : n < 18446744073709551616) where
   fewer is =
       let one : bit_at n k ≡ 1 = eqb-true (bit_at n k) 1 is in
       let power : 1 * 2 ^ k % 18446744073709551616 ≡ 2 ^ k = small in
-      let parts : bit_and (18446744073709551615 - 2 ^ k) n + bit_and (2 ^ k) n ≡ n = and-not 64 (2 ^ k) n (pow-lt l) fits in
+      let parts : bit_and (18446744073709551615 - 2 ^ k) n + bit_and (2 ^ k) n ≡ n =
+      and-not 64 (2 ^ k) n (pow-lt l) fits in
       let gone : bit_and (2 ^ k) n ≡ 1 * 2 ^ k = and_comm (2 ^ k) n ∙ and_pow n k ∙ ap (λ (b : ℕ). b * 2 ^ k) one in
       rw (power, and_comm n (18446744073709551615 - 2 ^ k)) (omega (arith, parts, gone, pow_pos k))
     where
@@ -42,7 +50,8 @@ module _ (n k : ℕ) (l : k < 64) (fits : n < 18446744073709551616) where
       small = rw (one-mul (2 ^ k)) (mod-eq_of_lt (pow-lt l))
 
 module _ (n : ℕ) (some : 0 < n) (fits : n < 18446744073709551616) where
-  pub first_in : (trailing_zeros w64 n < 64) × (among n (trailing_zeros w64 n) ≡ true) × ((p : ℕ) → p < trailing_zeros w64 n → among n p ≡ false)
+  pub first_in : (trailing_zeros w64 n < 64) × (among n (trailing_zeros w64 n) ≡ true) ×
+      ((p : ℕ) → p < trailing_zeros w64 n → among n p ≡ false)
   first_in =
       let (below, here, before) = bit_at-trailing_zeros w64 n some fits in
       (below, rw here refl, λ p l. rw (before p l) refl)
@@ -56,6 +65,7 @@ none_in n fits = elim (cases_eq n 0) [
   | inl e ↦ (λ t p. rw e (zero_below p), λ h. eq-eqb n 0 e)
   | inr d ↦ (
     λ t. absurd (d (eqb-true n 0 t)),
-    λ h. (let (below, here, before) = first_in n (omega (arith, d)) fits in absurd (false≢true (sym (h (trailing_zeros w64 n)) ∙ here))),
+    λ h. (let (below, here, before) = first_in n (omega (arith, d)) fits in
+        absurd (false≢true (sym (h (trailing_zeros w64 n)) ∙ here))),
   )
 ]

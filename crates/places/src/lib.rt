@@ -1,33 +1,33 @@
 // Sets of places of a sheet, which has at most 64.
 #![tactic(auto)]
 
-ghost use Rattle.std.specs.Prelude.{◌≡◌, ℕ, ◌<◌, ◌≤◌, true, false, not, ◌&&◌, ◌||◌, MatchOption, IfSome, Decides, ◌==◌};
-ghost use Rattle.places.specs.Places.{among};
+ghost use Rattle.std.specs.Prelude.{◌≡◌, ◌<◌, ◌≤◌, ◌↔◌, IsTrue, IfSome, MatchOption};
+ghost use Rattle.places.specs.Places.{IsEmpty, IsFirst, Adds, Removes, IsSmaller};
 
-// A set of places below 64, with a bit for each.
+/// A set of places below 64, with a bit for each.
 #[derive(Clone, Copy, PartialEq, Eq, Debug)]
 pub struct Places {
     bits: u64,
 }
 
 impl Places {
-    // No place.
+    /// The set without a place.
     pub fn none() -> Places
-        ensures { (p : ℕ) → among result.bits p ≡ false }
+        ensures { IsEmpty result }
     {
         Places { bits: 0 }
     }
 
-    // Whether no place is in it.
+    /// Whether the set has no place.
     pub fn is_empty(&self) -> bool
-        ensures { Decides result ((p : ℕ) → among self.now.bits p ≡ false) }
+        ensures { IsTrue result ↔ IsEmpty self.now }
     {
         self.bits == 0
     }
 
-    // Puts a place in. One past the 64th changes nothing.
+    /// Puts a place in. One past the 64th changes nothing.
     pub fn insert(&mut self, place: usize)
-        ensures below { place < 64 → (p : ℕ) → among self.new.bits p ≡ (p == place || among self.old.bits p) }
+        ensures below { place < 64 → Adds self.old self.new place }
         ensures past { 64 ≤ place → self.new ≡ self.old }
     {
         if place < 64 {
@@ -35,11 +35,11 @@ impl Places {
         }
     }
 
-    // Takes the first place out, if there is one.
+    /// Takes the first place out, if there is one.
     pub fn take_first(&mut self) -> Option<usize>
-        ensures first { MatchOption result ((p : ℕ) → among self.old.bits p ≡ false) (λ f. (f < 64) × (among self.old.bits f ≡ true) × ((p : ℕ) → p < f → among self.old.bits p ≡ false)) }
-        ensures rest { MatchOption result (self.new ≡ self.old) (λ f. (p : ℕ) → among self.new.bits p ≡ (not (p == f) && among self.old.bits p)) }
-        ensures fewer { IfSome result (λ f. self.new.bits < self.old.bits) }
+        ensures first { MatchOption result (IsEmpty self.old) (IsFirst self.old) }
+        ensures rest { MatchOption result (self.new ≡ self.old) (Removes self.old self.new) }
+        ensures fewer { IfSome result (λ _. IsSmaller self.old self.new) }
     {
         if self.is_empty() {
             return None;

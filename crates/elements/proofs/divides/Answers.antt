@@ -8,5 +8,6 @@ returns g c =
     divides_by_pairs _ _ _ _ c.exponents-small.ensures c.exponents-large.ensures _ (omega arith) (omega arith)
     (sym c.family.ensures ∙ c.if-family.false ∙ c.family-2.ensures)
     (cases_from_all c.all.new.self _ _ (λ (p : ℕ × ℕ). p.0 ≤ p.1) (λ p. p.1 < p.0) c.all.ensures.ran
-    (YieldsList-from_zip (YieldsList-from_slice c.exponents-small.result cc) (YieldsList-from_slice c.exponents-large.result cc))
+    (YieldsList-from_zip (YieldsList-from_slice c.exponents-small.result cc)
+    (YieldsList-from_slice c.exponents-large.result cc))
     (λ x q k. search (rules, tests)) (λ x q k. search (rules, tests)))

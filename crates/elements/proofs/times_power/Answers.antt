@@ -19,5 +19,6 @@ pub returns : goal.returns
 returns g c =
     record {
       value = value_of g.E.Element.shown _ _ _ c.product.result _ c.in_ok-power.ensures c.product.ensures;
-      small = λ _ low l. some_of g.E.Element.shown _ _ _ c.product.result _ c.in_ok-power.ensures c.product.ensures low l;
+      small = λ _ low l. some_of g.E.Element.shown _ _ _ c.product.result _ c.in_ok-power.ensures c.product.ensures
+          low l;
     }

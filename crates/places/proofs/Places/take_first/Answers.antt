@@ -20,7 +20,8 @@ returns-clause-first c = first_in c.args.self.now.bits (some c) (fits c)
 
 -- src/lib.rt:39:5
 pub returns-clause-rest : goal.returns-clause-rest
-returns-clause-rest c = taken_out c.args.self.now.bits (trailing_zeros w64 c.args.self.now.bits) (first_in c.args.self.now.bits (some c) (fits c)).0 (fits c)
+returns-clause-rest c = taken_out c.args.self.now.bits (trailing_zeros w64 c.args.self.now.bits)
+    (first_in c.args.self.now.bits (some c) (fits c)).0 (fits c)
 
 -- src/lib.rt:39:5
 pub returns-clause-fewer : goal.returns-clause-fewer
