@@ -4,7 +4,8 @@ use Rattle.orderings.specs.Answer.{Check, Judged}
 
 module _ {O : Type 0} (refuse : ℕ → O) (G H : O → Type 0) where
   -- two outcomes of the same checks: both by one refusal, or both granted
-  pub judged_alike : (cs : List Check) (a b : O) → Judged refuse cs G a → Judged refuse cs H b → ((r : ℕ) × (a ≡ refuse r) × (b ≡ refuse r)) ⊎ (G a × H b)
+  pub judged_alike : (cs : List Check) (a b : O) → Judged refuse cs G a → Judged refuse cs H b →
+      ((r : ℕ) × (a ≡ refuse r) × (b ≡ refuse r)) ⊎ (G a × H b)
   judged_alike [] a b x y = inr (x, y)
   judged_alike (c ∷ cs) a b (inl x) (inl y) = inl (c.number, x.1, y.1)
   judged_alike (c ∷ cs) a b (inl x) (inr y) = absurd (x.0 y.0)
@@ -12,8 +13,8 @@ module _ {O : Type 0} (refuse : ℕ → O) (G H : O → Type 0) where
   judged_alike (c ∷ cs) a b (inr x) (inr y) = judged_alike cs a b x.1 y.1
 
 -- where a grant has one outcome, the checks and the grant have one
-pub judged_once : {O : Type 0} (refuse : ℕ → O) (G : O → Type 0) → ((a b : O) → G a → G b → a ≡ b) → (cs : List Check) (a b : O) →
-    Judged refuse cs G a → Judged refuse cs G b → a ≡ b
+pub judged_once : {O : Type 0} (refuse : ℕ → O) (G : O → Type 0) → ((a b : O) → G a → G b → a ≡ b) →
+    (cs : List Check) (a b : O) → Judged refuse cs G a → Judged refuse cs G b → a ≡ b
 judged_once refuse G once cs a b x y = elim (judged_alike refuse G G cs a b x y) [
   | inl r ↦ r.1 ∙ sym r.2
   | inr g ↦ once a b g.0 g.1

@@ -1,4 +1,4 @@
--- The elements that fit stand in one line. Assumes nothing.
+-- The elements that fit are ordered totally. Assumes nothing.
 use Rattle.std.proofs.Common.{◌≡◌, ℕ, zero, suc, ◌<◌, ◌≤◌, Bool, ◌⊎◌, List, sym, ◌∙◌, inl, inr, arith, below_none, below_more}
 use Rattle.std.proofs.lemmas.List.{ext_get_or}
 use Rattle.std.proofs.lemmas.Bool.{cases_eq, cases_lt, cases_order}
@@ -39,8 +39,14 @@ module _ (order : List ℕ) where
   ]
     where
       make : (i : ℕ) → i ≤ j → i ≤ k → exponent u (at order i) < exponent w (at order i) → (i : ℕ) × PartAt order i u w
-      make i hj hk l =
-          (i, record { family = x.family ∙ y.family; above = λ m hm. x.above m (omega arith) ∙ y.above m (omega arith); smaller = l })
+      make i hj hk l = (
+        i,
+        record {
+          family = x.family ∙ y.family;
+          above = λ m hm. x.above m (omega arith) ∙ y.above m (omega arith);
+          smaller = l;
+        },
+      )
 
   pub transitive : (u v w : Shown) → Below order u v → Below order v w → Below order u w
   transitive u v w (inl l) (inl m) = inl (omega arith)
@@ -51,7 +57,8 @@ module _ (order : List ℕ) where
   pub asymmetric : (u w : Shown) → Below order u w → Below order w u → ⊥
   asymmetric u w l m = irreflexive u (transitive u w u l m)
 
-module _ (admits : ℕ → Bool) (n : ℕ) (order : List ℕ) (o : IsOrdering n order) (u w : Shown) (a : Admitted admits n u) (b : Admitted admits n w) where
+module _ (admits : ℕ → Bool) (n : ℕ) (order : List ℕ) (o : IsOrdering n order) (u w : Shown) (a : Admitted admits n u)
+    (b : Admitted admits n w) where
   -- elements that agree in all n variables have the same exponents
   same_exponents : Agree order n u w → (v : ℕ) → 1 ≤ v → exponent u v ≡ exponent w v
   same_exponents agree v low = elim (cases_lt n v) [

@@ -31,7 +31,10 @@ module _ (n : ℕ) (order : List ℕ) (o : IsOrdering n order) where
 
   -- no more than eight variables can be ordered
   pub few : n ≤ 8
-  few = elim (cases_lt 8 n) [ inl h ↦ absurd (omega (arith, o.low 8 h, get_or_past order 8 0 (omega (arith, o.eight)))) | inr h ↦ h ]
+  few = elim (cases_lt 8 n) [
+    | inl h ↦ absurd (omega (arith, o.low 8 h, get_or_past order 8 0 (omega (arith, o.eight))))
+    | inr h ↦ h
+  ]
 
   pub one_position : (j k : ℕ) → 1 ≤ at order j → at order j ≡ at order k → j ≡ k
   one_position j k l e = elim (cases_order j k) [
@@ -58,7 +61,8 @@ counted n k l = omega (arith, get_or-range_with_len 0 n k 0 l)
 
 -- an entry of the first n that is not new
 pub ordering_not : (n : ℕ) (list : List ℕ) →
-    ((k : ℕ) × (k < length (range_with_len 0 n)) × HoldsAt (λ i. IsNew n list i → ⊥) (range_with_len 0 n) k) → IsOrdering n list → ⊥
+    ((k : ℕ) × (k < length (range_with_len 0 n)) × HoldsAt (λ i. IsNew n list i → ⊥) (range_with_len 0 n) k) →
+    IsOrdering n list → ⊥
 ordering_not n list (k, l, h) o =
     let small : k < n = omega (arith, length-range_with_len 0 n) in
     rw (counted n k small) at (h 0) (o.low k small, o.high k small, λ (j, m, e). o.distinct j k m small e)
@@ -66,14 +70,17 @@ ordering_not n list (k, l, h) o =
 -- the first n entries are new; the rest is 0 exactly where the list is an ordering
 pub ordering_by_parts : (n : ℕ) (list : List ℕ) (r : Bool) → n ≤ 8 → length list ≡ 8 →
     AllWithin (IsNew n list) (range_with_len 0 n) 0 (length (range_with_len 0 n)) →
-    MatchBool r (AllWithin (λ x. x ≡ 0) (drop n list) 0 (length (drop n list))) ((k : ℕ) × (k < length (drop n list)) × HoldsAt (λ x. x ≡ 0 → ⊥) (drop n list) k) →
+    MatchBool r (AllWithin (λ x. x ≡ 0) (drop n list) 0 (length (drop n list)))
+    ((k : ℕ) × (k < length (drop n list)) × HoldsAt (λ x. x ≡ 0 → ⊥) (drop n list) k) →
     Decides r (IsOrdering n list)
 ordering_by_parts n list r most eight each rest = told r rest
   where
     first : (k : ℕ) → k < n → IsNew n list k
     first k l = rw (counted n k l) at (each k 0 (omega arith) (omega (arith, length-range_with_len 0 n)))
 
-    told : (r : Bool) → MatchBool r (AllWithin (λ x. x ≡ 0) (drop n list) 0 (length (drop n list))) ((k : ℕ) × (k < length (drop n list)) × HoldsAt (λ x. x ≡ 0 → ⊥) (drop n list) k) → Decides r (IsOrdering n list)
+    told : (r : Bool) → MatchBool r (AllWithin (λ x. x ≡ 0) (drop n list) 0 (length (drop n list)))
+        ((k : ℕ) × (k < length (drop n list)) × HoldsAt (λ x. x ≡ 0 → ⊥) (drop n list) k) →
+        Decides r (IsOrdering n list)
     told true zero_rest = (
       λ _. record {
         eight = eight;
@@ -82,7 +89,8 @@ ordering_by_parts n list r most eight each rest = told r rest
         distinct = λ j k h l e. (first k l).2 (j, h, e);
         zeros = λ k l. elim (cases_lt k 8) [
           | inl h ↦ (let e : n + (k - n) ≡ k = omega arith in
-              ap (at list) (sym e) ∙ sym (get_or-drop n list (k - n) 0) ∙ zero_rest (k - n) 0 (omega arith) (omega (arith, length-drop n list, eight)))
+              ap (at list) (sym e) ∙ sym (get_or-drop n list (k - n) 0) ∙
+              zero_rest (k - n) 0 (omega arith) (omega (arith, length-drop n list, eight)))
           | inr h ↦ get_or_past list k 0 (omega arith)
         ];
       },

@@ -60,16 +60,17 @@ reason NotARow = codes "the element is not a row"
 reason (NoOrdering tested) = codes "no ordering makes the rows complete"
 reason NoCone = codes "no cone holds the element"
 
+-- what a refused call answers
 abbrev pub refusal : Refusal → Answer
 refusal r = refused (number r) (values r)
 
--- compare's number of a case
-abbrev pub standing : Comparison → ℕ
-standing Below = 0
-standing Same = 1
-standing Above = 2
+-- the number by which a comparison is told
+abbrev pub comparison_number : Comparison → ℕ
+comparison_number Below = 0
+comparison_number Same = 1
+comparison_number Above = 2
 
--- the case of compare that an ordering of two numbers is
+-- how the first of two numbers stands to the second, as a comparison
 abbrev pub comparison : Ordering → Comparison
 comparison Less = Below
 comparison Equal = Same
@@ -85,13 +86,16 @@ pub record Check : Type 1 where
   pub number : ℕ
   pub holds : Type 0
 
+-- a check, by its number and what has to hold
 abbrev pub check : ℕ → Type 0 → Check
 check r p = record { number = r; holds = p }
 
--- the first check that fails decides the outcome by its number; where all hold, `grants` says which outcomes there are
+-- the first check that fails decides the outcome by its number; where all hold, `grants` says
+-- which outcomes there are
 abbrev pub Judged : {O : Type 0} → (ℕ → O) → List Check → (O → Type 0) → O → Type 0
 Judged refuse [] grants o = grants o
-Judged refuse (c ∷ cs) grants o = ((c.holds → ⊥) × (o ≡ refuse c.number)) ⊎ (c.holds × Judged refuse cs grants o)
+Judged refuse (c ∷ cs) grants o =
+    (¬ c.holds × (o ≡ refuse c.number)) ⊎ (c.holds × Judged refuse cs grants o)
 
 -- a call's answer: its first refusal, which carries no value, or what it grants
 abbrev pub Answers : List Check → (Answer → Type 0) → Answer → Type 0

@@ -8,26 +8,32 @@ use Rattle.orderings.specs.Order.{VariableCount, IsOrdering, Below}
 -- what compare asks: a variable count, two elements that fit, an ordering of so many variables
 abbrev pub compare_checks : (ℕ → Bool) → ℕ → List ℕ → Shown → Shown → List Check
 compare_checks admits n order u w =
-    check 5 (VariableCount n) ∷ check 9 (Fit admits n u × Fit admits n w) ∷ check 11 (IsOrdering n order) ∷ []
+    check 5 (VariableCount n) ∷
+    check 9 (Fit admits n u × Fit admits n w) ∷
+    check 11 (IsOrdering n order) ∷ []
 
 -- 0 where u is below w, 1 where they are the same, 2 where u is above w
-pub data Stands (order : List ℕ) (u w : Shown) : Answer → Type 0 where
-  below : Below order u w → Stands order u w (granted (0 ∷ []))
-  same : u ≡ w → Stands order u w (granted (1 ∷ []))
-  above : Below order w u → Stands order u w (granted (2 ∷ []))
+pub data TellsComparison (order : List ℕ) (u w : Shown) : Answer → Type 0 where
+  below : Below order u w → TellsComparison order u w (granted (0 ∷ []))
+  same : u ≡ w → TellsComparison order u w (granted (1 ∷ []))
+  above : Below order w u → TellsComparison order u w (granted (2 ∷ []))
 
 -- compare's answer on u and w
 abbrev pub Compares : (ℕ → Bool) → ℕ → List ℕ → Shown → Shown → Answer → Type 0
-Compares admits n order u w a = Answers (compare_checks admits n order u w) (Stands order u w) a
+Compares admits n order u w a =
+    Answers (compare_checks admits n order u w) (TellsComparison order u w) a
 
--- under an ordering the elements that fit stand in one line
-pub record LinesUp (admits : ℕ → Bool) (n : ℕ) (order : List ℕ) : Type 0 where
-  pub total : (u w : Shown) → Fit admits n u → Fit admits n w → Below order u w ⊎ ((u ≡ w) ⊎ Below order w u)
-  pub irreflexive : (u : Shown) → Below order u u → ⊥
+-- under an ordering the elements that fit are ordered totally
+pub record IsTotalOrder (admits : ℕ → Bool) (n : ℕ) (order : List ℕ) : Type 0 where
+  pub total : (u w : Shown) → Fit admits n u → Fit admits n w →
+      Below order u w ⊎ ((u ≡ w) ⊎ Below order w u)
+  pub irreflexive : (u : Shown) → ¬ Below order u u
   pub transitive : (u v w : Shown) → Below order u v → Below order v w → Below order u w
 
+-- so it is under every ordering
 abbrev pub CompareIsATotalOrder : Type 0
-CompareIsATotalOrder = (admits : ℕ → Bool) (n : ℕ) (order : List ℕ) → IsOrdering n order → LinesUp admits n order
+CompareIsATotalOrder =
+    (admits : ℕ → Bool) (n : ℕ) (order : List ℕ) → IsOrdering n order → IsTotalOrder admits n order
 
 -- the answer with its elements exchanged: 0 and 2 are swapped, and the rest stays
 pub data Mirrors : Answer → Answer → Type 0 where
@@ -36,12 +42,13 @@ pub data Mirrors : Answer → Answer → Type 0 where
   same_same : Mirrors (granted (1 ∷ [])) (granted (1 ∷ []))
   refused_refused : {r : ℕ} {vs : List ℕ} → Mirrors (refused r vs) (refused r vs)
 
--- each input has one answer, and exchanging the elements mirrors it
+-- each input has one answer
 abbrev pub CompareHasOneAnswer : Type 0
 CompareHasOneAnswer =
     (admits : ℕ → Bool) (n : ℕ) (order : List ℕ) (u w : Shown) (a b : Answer) →
     Compares admits n order u w a → Compares admits n order u w b → a ≡ b
 
+-- exchanging the elements mirrors the answer
 abbrev pub SwappingMirrorsCompare : Type 0
 SwappingMirrorsCompare =
     (admits : ℕ → Bool) (n : ℕ) (order : List ℕ) (u w : Shown) (a b : Answer) →

@@ -2,7 +2,8 @@
 use Rattle.std.specs.Prelude.{◌≡◌, ℕ, ◌<◌, ◌≤◌, Bool, true, length}
 use Rattle.elements.specs.Element.{Shown, exponent}
 
--- an element of the kind in n variables: a family to 255 that the kind admits, eight exponents to 65,535, 0 for the variables above n
+-- an element of the kind in n variables: a family to 255 that the kind admits, and eight exponents
+-- to 65,535, which are 0 for the variables above n
 pub record Admitted (admits : ℕ → Bool) (n : ℕ) (e : Shown) : Type 0 where
   pub family : admits e.family ≡ true
   pub byte : e.family ≤ 255

@@ -2,5 +2,5 @@ pub mod Order
 pub mod Fit
 pub mod Answer
 pub mod Compare
-pub mod Stands
+pub mod Comparison
 pub mod Rows

@@ -11,11 +11,16 @@ pub record VariableCount (n : ℕ) : Type 0 where
 abbrev pub at : List ℕ → ℕ → ℕ
 at order k = slice_index order k
 
+-- the entry at position k stands at an earlier position too
+abbrev pub Repeats : List ℕ → ℕ → Type 0
+Repeats list k = (j : ℕ) × (j < k) × (at list j ≡ at list k)
+
 -- the entry at position k is one of n variables, and stands nowhere before it
 abbrev pub IsNew : ℕ → List ℕ → ℕ → Type 0
-IsNew n list k = (1 ≤ at list k) × (at list k ≤ n) × (((j : ℕ) × (j < k) × (at list j ≡ at list k)) → ⊥)
+IsNew n list k = (1 ≤ at list k) × (at list k ≤ n) × ¬ Repeats list k
 
--- an ordering of n variables: eight numbers, of which the first n are 1 to n, each once, and the rest 0
+-- an ordering of n variables: eight numbers, of which the first n are 1 to n, each once, and the
+-- rest 0
 pub record IsOrdering (n : ℕ) (order : List ℕ) : Type 0 where
   pub eight : length order ≡ 8
   pub low : (k : ℕ) → k < n → 1 ≤ at order k
@@ -33,13 +38,18 @@ EachVariableStandsOnce =
 abbrev pub Agree : List ℕ → ℕ → Shown → Shown → Type 0
 Agree order k u w = (j : ℕ) → j < k → exponent u (at order j) ≡ exponent w (at order j)
 
+-- u and w agree in every variable of the list
+abbrev pub AgreeInAll : List ℕ → Shown → Shown → Type 0
+AgreeInAll order u w = Agree order (length order) u w
+
 -- position k of the list is the first at which u and w differ
 pub record DifferAt (order : List ℕ) (k : ℕ) (u w : Shown) : Type 0 where
   pub inside : k < length order
   pub above : Agree order k u w
-  pub here : exponent u (at order k) ≡ exponent w (at order k) → ⊥
+  pub here : exponent u (at order k) ≢ exponent w (at order k)
 
--- u and w, of one family, part at position k: the greatest variable in which they differ stands there, and u has the smaller exponent
+-- u and w, of one family, part at position k: the greatest variable in which they differ stands
+-- there, and u has the smaller exponent
 pub record PartAt (order : List ℕ) (k : ℕ) (u w : Shown) : Type 0 where
   pub family : u.family ≡ w.family
   pub above : Agree order k u w

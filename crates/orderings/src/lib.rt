@@ -1,4 +1,4 @@
-// Orderings of the variables, the elements that a sheet takes, compare, and the refusals with their numbers.
+// Orderings of variables, the elements that a sheet takes, compare, and the refusals.
 #![tactic(auto)]
 
 pub mod comparing;

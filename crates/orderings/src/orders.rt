@@ -1,13 +1,13 @@
 // Whether a list of bytes is an ordering.
-ghost use Rattle.std.specs.Prelude.{◌≡◌, ℕ, ◌<◌, length, Decides};
-ghost use Rattle.orderings.specs.Order.{at, VariableCount, IsNew, IsOrdering, EachVariableStandsOnce};
+ghost use Rattle.std.specs.Prelude.{◌<◌, length, IsTrue, ◌↔◌};
+ghost use Rattle.orderings.specs.Order.{VariableCount, Repeats, IsNew, IsOrdering, EachVariableStandsOnce};
 
-// The most variables that a sheet can have.
+/// The most variables that a sheet can have.
 pub const MOST_VARIABLES: u8 = 8;
 
-// Whether a sheet can have so many variables.
+/// Whether a sheet can have so many variables.
 pub fn is_variable_count(n: u8) -> bool
-    ensures { Decides result (VariableCount n) }
+    ensures { IsTrue result ↔ VariableCount n }
 {
     (1..=MOST_VARIABLES).contains(&n)
 }
@@ -15,7 +15,7 @@ pub fn is_variable_count(n: u8) -> bool
 // Whether the entry at position k stands before it too.
 fn repeats(list: &[u8], k: usize) -> bool
     requires { k < length list.now }
-    ensures { Decides result ((j : ℕ) × (j < k) × (at list.now j ≡ at list.now k)) }
+    ensures { IsTrue result ↔ Repeats list.now k }
 {
     list[..k].contains(&list[k])
 }
@@ -23,15 +23,15 @@ fn repeats(list: &[u8], k: usize) -> bool
 // Whether the entry at position k is one of n variables, and stands nowhere before it.
 fn is_new(list: &[u8], k: usize, n: u8) -> bool
     requires { k < length list.now }
-    ensures { Decides result (IsNew n list.now k) }
+    ensures { IsTrue result ↔ IsNew n list.now k }
 {
     (1..=n).contains(&list[k]) && !repeats(list, k)
 }
 
-// Whether the list is an ordering of n variables, which then lists each of them at one position.
+/// Whether the list is an ordering of `n` variables, which then lists each of them at one position.
 #[tactic(auto, using(crate::proofs::Positions::each_variable_stands_once))]
 pub fn is_ordering(list: &[u8], n: u8) -> bool
-    ensures test { Decides result (IsOrdering n list.now) }
+    ensures test { IsTrue result ↔ IsOrdering n list.now }
     ensures each { EachVariableStandsOnce }
 {
     if list.len() != 8 || n > MOST_VARIABLES {

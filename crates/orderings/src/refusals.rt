@@ -4,37 +4,39 @@ ghost use Rattle.orderings.specs.Answer.{number as number_of, reason};
 
 use std::fmt;
 
+/// Why a call is refused.
 #[derive(Clone, Copy, PartialEq, Eq, Debug)]
 pub enum Refusal {
-    // The variable count is 0 or above 8.
+    /// The variable count is 0 or above 8.
     VariableCount,
-    // The table has no place, or more than 64.
+    /// The table has no place, or more than 64.
     PlaceCount,
-    // The order bytes are not eight.
+    /// The order bytes are not eight.
     OrderLength,
-    // The parts do not make a sheet.
+    /// The parts do not make a sheet.
     NotASheet,
-    // The family is not one of the kind, or an exponent is too large or stands above the variable count.
+    /// The family is not one of the kind, or an exponent is too large or stands above the variable
+    /// count.
     UnfitElement,
-    // The place has no row, or the variable is not one of the sheet's.
+    /// The place has no row, or the variable is not one of the sheet's.
     NoSuchBar,
-    // The list is not an ordering of the sheet's variables.
+    /// The list is not an ordering of the sheet's variables.
     NotAnOrdering,
-    // There is no row to judge.
+    /// There is no row to judge.
     NoRows,
-    // The element is a row already.
+    /// The element is a row already.
     AlreadyARow,
-    // Every place is taken.
+    /// Every place is taken.
     TableFull,
-    // The element is not a row.
+    /// The element is not a row.
     NotARow,
-    // No ordering makes the rows complete; so many prefixes were tested.
+    /// No ordering makes the rows complete; so many prefixes were tested.
     NoOrdering(u32),
-    // No cone holds the element.
+    /// No cone holds the element.
     NoCone,
 }
 
-// The number by which the refusal is told.
+/// The number by which the refusal is told.
 impl From<Refusal> for u8 {
     ghost from_gives = { λ r n. n ≡ number_of r };
 
@@ -57,7 +59,7 @@ impl From<Refusal> for u8 {
     }
 }
 
-// What the refusal says, in words.
+/// What the refusal says, in words.
 impl fmt::Display for Refusal {
     ghost output = { λ r. Some (reason r) };
 

@@ -23,7 +23,8 @@ returns-then-not-is_fit g c = record {
     inl (
       λ f. elim c.then-not-is_fit.branch [
         | then-not-is_fit-via-then-not-is_fit w ↦ not_from_Decides _ c.is_fit.ensures w.if-not-is_fit.true f.0
-        | then-not-is_fit-via-else-not-is_fit+then-not-is_fit-2 w ↦ not_from_Decides _ w.is_fit-else-not-is_fit.ensures w.if-not-is_fit-2.true f.1
+        | then-not-is_fit-via-else-not-is_fit+then-not-is_fit-2 w ↦
+            not_from_Decides _ w.is_fit-else-not-is_fit.ensures w.if-not-is_fit-2.true f.1
       ],
       refl,
     ),
@@ -55,7 +56,14 @@ returns g c =
     record {
       answers = inr (
         c.if-not-is_variable_count.ensures.0 refl,
-        inr ((u, w), inr (o, stands_from g.E.Element.admitted c.args.n c.args.order.now (g.E.Element.shown c.args.u.now) (g.E.Element.shown c.args.w.now) c.standing.result o u w c.standing.ensures)),
+        inr (
+          (u, w),
+          inr (
+            o,
+            stands_from g.E.Kind.admitted c.args.n c.args.order.now (g.E.Element.shown c.args.u.now)
+                (g.E.Element.shown c.args.w.now) c.comparison_of.result o u w c.comparison_of.ensures,
+          ),
+        ),
       );
       total = compare_is_a_total_order;
       once = compare_has_one_answer;
