@@ -1,13 +1,16 @@
 -- The number of a bar counts the different lower bars. Assumes nothing.
 use Rattle.std.proofs.Common.{◌≡◌, ℕ, zero, suc, ◌+◌, ◌<◌, ◌≤◌, Bool, true, ◌&&◌, ◌⊎◌, List, [], ◌∷◌, length, map, filter, add-one, sym, refl, ap, ◌∙◌, subst, inl, inr, arith}
-use Rattle.std.specs.List.{range_with_len, AllByRecursion as All}
-use Rattle.std.proofs.ByRecursion.{all_kept_by}
+use Rattle.std.specs.List.{range_with_len, Contains}
+use Rattle.std.specs.List.Sorted.{IsStrictlyIncreasing}
 use Rattle.std.proofs.lemmas.List.{length-map}
-use Rattle.std.proofs.lemmas.Bool.{cases_Bool, cases_order, cases_lt, cond-true, cond-false, cond_both, and_parts, and_from, both_ways}
+use Rattle.std.proofs.lemmas.List.Elements.{All-contains, All-filter, Contains-append_right, filter_passes}
+use Rattle.std.proofs.lemmas.List.FromFn.{length-range_with_len, get_or-range_with_len}
+use Rattle.std.proofs.lemmas.List.Kept.{IsStrictlyIncreasing-filter}
+use Rattle.std.proofs.lemmas.Bool.{cases_Bool, cases_order, cases_lt, cond-true, cond_both, and_parts, and_from, both_ways}
 use Rattle.elements.specs.Element.{Shown}
 use Rattle.orderings.specs.Rows.{row}
 use Rattle.orderings.proofs.Lines.{first}
-use Rattle.barcode.specs.Bars.{SameBar, LowerBar, same_bar, lower_bar, opens_bar, bar_number, Among, Increasing, BarNumberCountsTheDifferentLowerBars}
+use Rattle.barcode.specs.Bars.{SameBar, LowerBar, same_bar, lower_bar, opens_bar, bar_number, BarNumberCountsTheDifferentLowerBars}
 use Rattle.barcode.proofs.Tested.{same_bar_decides, lower_bar_decides}
 use Rattle.barcode.proofs.Found.{opens_not, opens_all}
 
@@ -15,61 +18,52 @@ module _ (f : ℕ → Bool) where
   at_most : (a n : ℕ) → length (filter f (range_with_len a n)) ≤ n
   at_most a zero = omega arith
   at_most a (suc n) =
-      cond_both (f a) (a ∷ filter f (range_with_len (a + 1) n)) (filter f (range_with_len (a + 1) n)) (λ xs. length xs ≤ suc n)
+      cond_both (f a) (a ∷ filter f (range_with_len (a + 1) n)) (filter f (range_with_len (a + 1) n))
+      (λ xs. length xs ≤ suc n)
       (λ _. omega (arith, at_most (a + 1) n)) (λ _. omega (arith, at_most (a + 1) n))
 
   -- not all are counted where one is passed over
   pub fewer : (a n p : ℕ) → a ≤ p → p < a + n → (f p ≡ true → ⊥) → length (filter f (range_with_len a n)) < n
   fewer a zero p l h out = absurd (omega arith)
   fewer a (suc n) p l h out = elim (cases_lt a p) [
-    | inl m ↦ cond_both (f a) (a ∷ filter f (range_with_len (a + 1) n)) (filter f (range_with_len (a + 1) n)) (λ xs. length xs < suc n)
+    | inl m ↦ cond_both (f a) (a ∷ filter f (range_with_len (a + 1) n)) (filter f (range_with_len (a + 1) n))
+        (λ xs. length xs < suc n)
         (λ _. omega (arith, fewer (a + 1) n p (omega arith) (omega arith) out)) (λ _. omega (arith, at_most (a + 1) n))
     | inr m ↦ (let here : a ≡ p = omega arith in
-        cond_both (f a) (a ∷ filter f (range_with_len (a + 1) n)) (filter f (range_with_len (a + 1) n)) (λ xs. length xs < suc n)
+        cond_both (f a) (a ∷ filter f (range_with_len (a + 1) n)) (filter f (range_with_len (a + 1) n))
+        (λ xs. length xs < suc n)
         (λ t. absurd (out (ap f (sym here) ∙ t))) (λ _. omega (arith, at_most (a + 1) n)))
   ]
 
-  among_kept : (xs : List ℕ) (x : ℕ) → Among x (filter f xs) → Among x xs × (f x ≡ true)
-  among_kept [] x a = absurd a
-  among_kept (y ∷ ys) x a = elim (cases_Bool (f y)) [
-    | inl t ↦ elim (subst (λ zs. Among x zs) (cond-true (f y) (y ∷ filter f ys) (filter f ys) t) a) [
-      | inl e ↦ (inl e, ap f e ∙ t)
-      | inr b ↦ (let r = among_kept ys x b in (inr r.0, r.1))
-    ]
-    | inr t ↦ (let r = among_kept ys x (subst (λ zs. Among x zs) (cond-false (f y) (y ∷ filter f ys) (filter f ys) t) a) in (inr r.0, r.1))
+  -- a number of the list that passes is kept
+  kept_has : (a n x : ℕ) → a ≤ x → x < a + n → f x ≡ true → Contains (filter f (range_with_len a n)) x
+  kept_has a zero x l h t = absurd (omega arith)
+  kept_has a (suc n) x l h t = elim (cases_lt a x) [
+    | inl m ↦ (let later = kept_has (a + 1) n x (omega arith) (omega arith) t in
+        cond_both (f a) (a ∷ filter f (range_with_len (a + 1) n)) (filter f (range_with_len (a + 1) n))
+        (λ xs. Contains xs x)
+        (λ _. Contains-append_right (a ∷ []) (filter f (range_with_len (a + 1) n)) x later) (λ _. later))
+    | inr m ↦ (let here : a ≡ x = omega arith in
+        rw (cond-true (f a) (a ∷ filter f (range_with_len (a + 1) n)) (filter f (range_with_len (a + 1) n))
+        (ap f here ∙ t)) (0, omega arith, here))
   ]
 
-  kept_among : (xs : List ℕ) (x : ℕ) → Among x xs → f x ≡ true → Among x (filter f xs)
-  kept_among [] x a t = a
-  kept_among (y ∷ ys) x (inl e) t = subst (λ zs. Among x zs) (sym (cond-true (f y) (y ∷ filter f ys) (filter f ys) (sym (ap f e) ∙ t))) (inl e)
-  kept_among (y ∷ ys) x (inr a) t =
-      cond_both (f y) (y ∷ filter f ys) (filter f ys) (λ zs. Among x zs) (λ _. inr (kept_among ys x a t)) (λ _. kept_among ys x a t)
+  -- what is kept passes
+  has_passed : (xs : List ℕ) (x : ℕ) → Contains (filter f xs) x → f x ≡ true
+  has_passed xs x h = All-contains (λ y. f y ≡ true) (filter f xs) x (filter_passes f xs) h
 
-  kept_increasing : (xs : List ℕ) → Increasing xs → Increasing (filter f xs)
-  kept_increasing [] h = tt
-  kept_increasing (x ∷ xs) h =
-      cond_both (f x) (x ∷ filter f xs) (filter f xs) Increasing
-      (λ _. (all_kept_by f (λ y. x < y) xs h.0, kept_increasing xs h.1)) (λ _. kept_increasing xs h.1)
+  -- what is kept of the numbers below n is below n
+  has_below : (n x : ℕ) → Contains (filter f (range_with_len 0 n)) x → x < n
+  has_below n x h =
+      All-contains (λ y. y < n) (filter f (range_with_len 0 n)) x
+      (All-filter f (λ y. y < n) (range_with_len 0 n)
+      (λ k d l. let small : k < n = omega (arith, length-range_with_len 0 n) in
+      omega (arith, get_or-range_with_len 0 n k d small))) h
 
-counting_above : (a b n : ℕ) → b < a → All (λ y. b < y) (range_with_len a n)
-counting_above a b zero l = tt
-counting_above a b (suc n) l = (l, counting_above (a + 1) b n (omega arith))
-
-counting_increasing : (a n : ℕ) → Increasing (range_with_len a n)
-counting_increasing a zero = tt
-counting_increasing a (suc n) = (counting_above (a + 1) a n (omega arith), counting_increasing (a + 1) n)
-
-among_counting : (a n x : ℕ) → Among x (range_with_len a n) → (a ≤ x) × (x < a + n)
-among_counting a zero x h = absurd h
-among_counting a (suc n) x (inl e) = (omega arith, omega arith)
-among_counting a (suc n) x (inr h) = let r = among_counting (a + 1) n x h in (omega (arith, r.0), omega (arith, r.1))
-
-counting_among : (a n x : ℕ) → a ≤ x → x < a + n → Among x (range_with_len a n)
-counting_among a zero x l h = absurd (omega arith)
-counting_among a (suc n) x l h = elim (cases_lt a x) [
-  | inl m ↦ inr (counting_among (a + 1) n x (omega arith) (omega arith))
-  | inr m ↦ inl (omega arith)
-]
+counting_increasing : (n : ℕ) → IsStrictlyIncreasing (range_with_len 0 n)
+counting_increasing n k l =
+    let inside : k + 1 < n = omega (arith, length-range_with_len 0 n) in
+    omega (arith, get_or-range_with_len 0 n k 0 (omega arith), get_or-range_with_len 0 n (k + 1) 0 inside)
 
 -- bars and their rows
 module _ (order : List ℕ) (v : ℕ) where
@@ -92,27 +86,36 @@ module _ (order : List ℕ) (v : ℕ) where
       }
 
 module _ (rows : List Shown) (order : List ℕ) (v : ℕ) where
-  decided : (j q : ℕ) → (SameBar order v (row rows j) (row rows q) → ⊥) ⊎ ((SameBar order v (row rows j) (row rows q) → ⊥) → ⊥)
+  decided : (j q : ℕ) → (SameBar order v (row rows j) (row rows q) → ⊥) ⊎
+      ((SameBar order v (row rows j) (row rows q) → ⊥) → ⊥)
   decided j q = elim (cases_Bool (same_bar order v (row rows j) (row rows q))) [
     | inl t ↦ inr (λ h. h ((same_bar_decides order v (row rows j) (row rows q)).0 t))
     | inr t ↦ inl (λ s. both_ways _ t ((same_bar_decides order v (row rows j) (row rows q)).1 s))
   ]
 
   -- the first row over a bar
-  first_over : (q : ℕ) → (p : ℕ) × (p ≤ q) × SameBar order v (row rows p) (row rows q) × (opens_bar rows order v p p ≡ true)
+  first_over : (q : ℕ) → (p : ℕ) × (p ≤ q) × SameBar order v (row rows p) (row rows q) ×
+      (opens_bar rows order v p p ≡ true)
   first_over q = elim (first (λ j. SameBar order v (row rows j) (row rows q) → ⊥) (λ j. decided j q) (suc q)) [
     | inl none ↦ absurd (none q (omega arith) (record { family = refl; agree = λ j l. refl }))
-    | inr f ↦ (let s = shares f.0 f.3 in
-        (f.0, omega (arith, f.1), s, opens_all rows order v f.0 f.0 (λ j l t. f.2 j l (same_trans order v (row rows j) (row rows f.0) (row rows q) t s))))
+    | inr f ↦ (let s = shares f.0 f.3 in (
+      f.0,
+      omega (arith, f.1),
+      s,
+      opens_all rows order v f.0 f.0
+          (λ j l t. f.2 j l (same_trans order v (row rows j) (row rows f.0) (row rows q) t s)),
+    ))
   ]
     where
-      shares : (j : ℕ) → ((SameBar order v (row rows j) (row rows q) → ⊥) → ⊥) → SameBar order v (row rows j) (row rows q)
+      shares : (j : ℕ) → ((SameBar order v (row rows j) (row rows q) → ⊥) → ⊥) →
+          SameBar order v (row rows j) (row rows q)
       shares j h = elim (cases_Bool (same_bar order v (row rows j) (row rows q))) [
         | inl t ↦ (same_bar_decides order v (row rows j) (row rows q)).0 t
         | inr t ↦ absurd (h (λ s. both_ways _ t ((same_bar_decides order v (row rows j) (row rows q)).1 s)))
       ]
 
-  one_opens : (p q : ℕ) → opens_bar rows order v p p ≡ true → opens_bar rows order v q q ≡ true → SameBar order v (row rows p) (row rows q) → p ≡ q
+  one_opens : (p q : ℕ) → opens_bar rows order v p p ≡ true → opens_bar rows order v q q ≡ true →
+      SameBar order v (row rows p) (row rows q) → p ≡ q
   one_opens p q op oq s = elim (cases_order p q) [
     | inl e ↦ e
     | inr o ↦ absurd (elim o [
@@ -122,14 +125,19 @@ module _ (rows : List Shown) (order : List ℕ) (v : ℕ) where
   ]
 
 -- no bar is lower than itself
-pub not_itself : (rows : List Shown) (order : List ℕ) (v p : ℕ) → (opens_bar rows order v p p && lower_bar order v (row rows p) (row rows p)) ≡ true → ⊥
+pub not_itself : (rows : List Shown) (order : List ℕ) (v p : ℕ) →
+    (opens_bar rows order v p p && lower_bar order v (row rows p) (row rows p)) ≡ true → ⊥
 not_itself rows order v p t =
-    let b = (lower_bar_decides order v (row rows p) (row rows p)).0 (and_parts (opens_bar rows order v p p) (lower_bar order v (row rows p) (row rows p)) t).1 in
+    let b = (lower_bar_decides order v (row rows p) (row rows p)).0
+    (and_parts (opens_bar rows order v p p) (lower_bar order v (row rows p) (row rows p)) t).1 in
     omega (arith, b.parts.smaller)
 
 -- what the code counts: the lower bars, of which the row's own is none
-module _ {X : Type 0} (shown : X → Shown) (xs : List X) (order : List ℕ) (v p : ℕ) (u : X) (l : p < length xs) (e : row (map shown xs) p ≡ shown u) (n : ℕ)
-    (c : n ≡ length (filter (λ q. opens_bar (map shown xs) order v q q && lower_bar order v (row (map shown xs) q) (shown u)) (range_with_len 0 (length xs)))) where
+module _ {X : Type 0} (shown : X → Shown) (xs : List X) (order : List ℕ) (v p : ℕ) (u : X) (l : p < length xs)
+    (e : row (map shown xs) p ≡ shown u) (n : ℕ)
+    (c : n ≡ length
+    (filter (λ q. opens_bar (map shown xs) order v q q && lower_bar order v (row (map shown xs) q) (shown u))
+    (range_with_len 0 (length xs)))) where
   pub counted : n + 1 ≡ bar_number (map shown xs) order (row (map shown xs) p) v
   counted = rw (e, length-map xs shown) (add-one n ∙ ap suc c)
 
@@ -138,8 +146,12 @@ module _ {X : Type 0} (shown : X → Shown) (xs : List X) (order : List ℕ) (v 
       omega (
         arith,
         c,
-        fewer (λ q. opens_bar (map shown xs) order v q q && lower_bar order v (row (map shown xs) q) (shown u)) 0 (length xs) p (omega arith) (omega arith)
-            (λ t. not_itself (map shown xs) order v p (subst (λ (x : Shown). (opens_bar (map shown xs) order v p p && lower_bar order v (row (map shown xs) p) x) ≡ true) (sym e) t)),
+        fewer (λ q. opens_bar (map shown xs) order v q q && lower_bar order v (row (map shown xs) q) (shown u)) 0
+            (length xs) p (omega arith) (omega arith)
+            (λ t. not_itself (map shown xs) order v p
+            (subst (λ (x : Shown).
+            (opens_bar (map shown xs) order v p p && lower_bar order v (row (map shown xs) p) x) ≡ true)
+            (sym e) t)),
       )
 
 pub bar_number_counts : BarNumberCountsTheDifferentLowerBars
@@ -147,20 +159,21 @@ bar_number_counts rows order u v =
     let f = λ (q : ℕ). opens_bar rows order v q q && lower_bar order v (row rows q) u in
     let all = range_with_len 0 (length rows) in
     record {
-      once = kept_increasing f all (counting_increasing 0 (length rows));
+      once = IsStrictlyIncreasing-filter f all (counting_increasing (length rows));
       lower = λ q a.
-          let r = among_kept f all q a in
-          let t = and_parts (opens_bar rows order v q q) (lower_bar order v (row rows q) u) r.1 in
-          (omega (arith, (among_counting 0 (length rows) q r.0).1), (lower_bar_decides order v (row rows q) u).0 t.1);
+          let t = and_parts (opens_bar rows order v q q) (lower_bar order v (row rows q) u) (has_passed f all q a) in
+          (has_below f (length rows) q a, (lower_bar_decides order v (row rows q) u).0 t.1);
       different = λ p q a b s.
           one_opens rows order v p q
-          (and_parts (opens_bar rows order v p p) (lower_bar order v (row rows p) u) (among_kept f all p a).1).0
-          (and_parts (opens_bar rows order v q q) (lower_bar order v (row rows q) u) (among_kept f all q b).1).0 s;
+          (and_parts (opens_bar rows order v p p) (lower_bar order v (row rows p) u) (has_passed f all p a)).0
+          (and_parts (opens_bar rows order v q q) (lower_bar order v (row rows q) u) (has_passed f all q b)).0 s;
       every = λ q l b.
-          let (p, le, s, o) = first_over rows order v q in (
+          let (p, le, s, o) = first_over rows order v q in
+          let low = (lower_bar_decides order v (row rows p) u).1 (lower_same order v (row rows p) (row rows q) u s b)
+          in (
             p,
-            kept_among f all p (counting_among 0 (length rows) p (omega arith) (omega arith))
-                (and_from (opens_bar rows order v p p) (lower_bar order v (row rows p) u) o ((lower_bar_decides order v (row rows p) u).1 (lower_same order v (row rows p) (row rows q) u s b))),
+            kept_has f 0 (length rows) p (omega arith) (omega arith)
+                (and_from (opens_bar rows order v p p) (lower_bar order v (row rows p) u) o low),
             s,
           );
     }

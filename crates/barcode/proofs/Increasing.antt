@@ -21,16 +21,17 @@ module _ (order : List ℕ) where
 
   pub three_ways : (u w : Shown) → Below order u w ⊎ (Tie u w ⊎ Below order w u)
   three_ways u w = elim (cases_order u.family w.family) [
-    | inl f ↦ elim (first (λ k. exponent u (at order k) ≡ exponent w (at order k)) (λ k. cases_eq (exponent u (at order k)) (exponent w (at order k))) (length order)) [
-      | inl all ↦ inr (inl (f, all))
-      | inr d ↦ elim (cases_order (exponent u (at order d.0)) (exponent w (at order d.0))) [
-        | inl e ↦ absurd (d.3 e)
-        | inr o ↦ elim o [
-          | inl l ↦ inl (inr (d.0, record { family = f; above = d.2; smaller = l }))
-          | inr l ↦ inr (inr (inr (d.0, record { family = sym f; above = λ j h. sym (d.2 j h); smaller = l })))
+    | inl f ↦ elim (first (λ k. exponent u (at order k) ≡ exponent w (at order k))
+        (λ k. cases_eq (exponent u (at order k)) (exponent w (at order k))) (length order)) [
+          | inl all ↦ inr (inl (f, all))
+          | inr d ↦ elim (cases_order (exponent u (at order d.0)) (exponent w (at order d.0))) [
+            | inl e ↦ absurd (d.3 e)
+            | inr o ↦ elim o [
+              | inl l ↦ inl (inr (d.0, record { family = f; above = d.2; smaller = l }))
+              | inr l ↦ inr (inr (inr (d.0, record { family = sym f; above = λ j h. sym (d.2 j h); smaller = l })))
+            ]
+          ]
         ]
-      ]
-    ]
     | inr o ↦ elim o [ inl l ↦ inl (inl l) | inr l ↦ inr (inr (inl l)) ]
   ]
 
@@ -38,12 +39,26 @@ module _ (order : List ℕ) where
   tie_right : (x u w : Shown) → Tie u w → Below order x u → Below order x w
   tie_right x u w (f, a) (inl l) = inl (omega arith)
   tie_right x u w (f, a) (inr (k, p)) =
-      inr (k, record { family = p.family ∙ f; above = λ j l. p.above j l ∙ agree_all order 0 u w a k j l; smaller = omega (arith, p.smaller, agree_all order 0 u w a (k + 1) k) })
+      inr (
+        k,
+        record {
+          family = p.family ∙ f;
+          above = λ j l. p.above j l ∙ agree_all order 0 u w a k j l;
+          smaller = omega (arith, p.smaller, agree_all order 0 u w a (k + 1) k);
+        },
+      )
 
   tie_left : (x u w : Shown) → Tie u w → Below order u x → Below order w x
   tie_left x u w (f, a) (inl l) = inl (omega arith)
   tie_left x u w (f, a) (inr (k, p)) =
-      inr (k, record { family = sym f ∙ p.family; above = λ j l. sym (agree_all order 0 u w a k j l) ∙ p.above j l; smaller = omega (arith, p.smaller, agree_all order 0 u w a (k + 1) k) })
+      inr (
+        k,
+        record {
+          family = sym f ∙ p.family;
+          above = λ j l. sym (agree_all order 0 u w a k j l) ∙ p.above j l;
+          smaller = omega (arith, p.smaller, agree_all order 0 u w a (k + 1) k);
+        },
+      )
 
   chained : (x y z : Shown) → (Below order x y → ⊥) → (Below order y z → ⊥) → Below order x z → ⊥
   chained x y z a b c = elim (three_ways x y) [
@@ -54,12 +69,17 @@ module _ (order : List ℕ) where
     ]
   ]
 
-  module _ (rows : List Shown) (lt : ℕ → ℕ → Bool) (tells : (p q : ℕ) → Decides (lt p q) (Below order (row rows p) (row rows q))) where
+  module _ (rows : List Shown) (lt : ℕ → ℕ → Bool)
+      (tells : (p q : ℕ) → Decides (lt p q) (Below order (row rows p) (row rows q))) where
     pub weak_order : IsStrictWeakOrder lt
     weak_order = record {
-      one_way = λ x y t. elim (cases_Bool (lt y x)) [ inl s ↦ absurd (asymmetric order (row rows x) (row rows y) ((tells x y).0 t) ((tells y x).0 s)) | inr s ↦ s ];
+      one_way = λ x y t. elim (cases_Bool (lt y x)) [
+        | inl s ↦ absurd (asymmetric order (row rows x) (row rows y) ((tells x y).0 t) ((tells y x).0 s))
+        | inr s ↦ s
+      ];
       chain = λ x y z a b. elim (cases_Bool (lt x z)) [
-        | inl t ↦ absurd (chained (row rows x) (row rows y) (row rows z) (not_from_Decides _ (tells x y) a) (not_from_Decides _ (tells y z) b) ((tells x z).0 t))
+        | inl t ↦ absurd (chained (row rows x) (row rows y) (row rows z) (not_from_Decides _ (tells x y) a)
+            (not_from_Decides _ (tells y z) b) ((tells x z).0 t))
         | inr t ↦ t
       ];
     }
@@ -79,7 +99,8 @@ before_decides order u w = (
   λ b. elim b [
     | inl l ↦ or_left (ltb u.family w.family) _ (lt-ltb _ _ l)
     | inr p ↦ or_right (ltb u.family w.family) _
-        (and_from (eqb u.family w.family) _ (eq-eqb _ _ p.1.family) ((below_decides order (length order) u w).1 (p.0, inside p.0 p.1.smaller, p.1.above, p.1.smaller)))
+        (and_from (eqb u.family w.family) _ (eq-eqb _ _ p.1.family)
+        ((below_decides order (length order) u w).1 (p.0, inside p.0 p.1.smaller, p.1.above, p.1.smaller)))
   ],
 )
   where
@@ -90,7 +111,8 @@ before_decides order u w = (
     ]
 
 -- what a sort made of the first places
-module _ (rows : List Shown) (order : List ℕ) (m : ℕ) (all sorted : List ℕ) (long : m ≤ length all) (own : (k : ℕ) → k < length all → get_or all k 0 ≡ k) (moved : IsPermutation (take m all) sorted) where
+module _ (rows : List Shown) (order : List ℕ) (m : ℕ) (all sorted : List ℕ) (long : m ≤ length all)
+    (own : (k : ℕ) → k < length all → get_or all k 0 ≡ k) (moved : IsPermutation (take m all) sorted) where
   pub sorted_long : length sorted ≡ m
   sorted_long = length_permutation (take m all) sorted moved ∙ length-take-le m all long
 
@@ -100,7 +122,8 @@ module _ (rows : List Shown) (order : List ℕ) (m : ℕ) (all sorted : List ℕ
 
   pub every_place : (p : ℕ) → p < m → (j : ℕ) × (j < m) × (get_or (sorted ++ drop m all) j 0 ≡ p)
   every_place p l =
-      let (j, h, e) = Contains-permutation (take m all) sorted p moved (p, omega (arith, length-take-le m all long), get_or-take-any p l) in
+      let (j, h, e) = Contains-permutation (take m all) sorted p moved
+      (p, omega (arith, length-take-le m all long), get_or-take-any p l) in
       (j, omega (arith, h, sorted_long), put_back j (omega (arith, h, sorted_long)) ∙ get_or_default sorted j 0 p h ∙ e)
     where
       get_or-take-any : (p : ℕ) → p < m → get_or (take m all) p p ≡ p
@@ -108,19 +131,23 @@ module _ (rows : List Shown) (order : List ℕ) (m : ℕ) (all sorted : List ℕ
 
   pub only_places : (j : ℕ) → j < m → get_or (sorted ++ drop m all) j 0 < m
   only_places j l =
-      let within = All-permutation (λ p. p < m) (take m all) sorted moved (λ k d h. below_m k d (omega (arith, h, length-take-le m all long))) in
+      let within = All-permutation (λ p. p < m) (take m all) sorted moved
+      (λ k d h. below_m k d (omega (arith, h, length-take-le m all long))) in
       let small = within j 0 (omega (arith, sorted_long)) in
       omega (arith, put_back j l, small)
     where
       below_m : (k d : ℕ) → k < m → get_or (take m all) k d < m
       below_m k d h =
-          let e : get_or (take m all) k d ≡ k = get_or-take m all k d h ∙ get_or_default all k d 0 (omega arith) ∙ own k (omega arith) in
+          let e : get_or (take m all) k d ≡ k = get_or-take m all k d h ∙ get_or_default all k d 0 (omega arith) ∙
+          own k (omega arith) in
           omega (arith, e)
 
   pub in_order : IsSortedBy (λ p q. before order (row rows p) (row rows q)) sorted → (i j : ℕ) → i ≤ j → j < m →
       Below order (row rows (get_or (sorted ++ drop m all) j 0)) (row rows (get_or (sorted ++ drop m all) i 0)) → ⊥
   in_order up i j le l b =
       let lt : ℕ → ℕ → Bool = λ p q. before order (row rows p) (row rows q) in
-      let tells : (p q : ℕ) → Decides (lt p q) (Below order (row rows p) (row rows q)) = λ p q. before_decides order (row rows p) (row rows q) in
+      let tells : (p q : ℕ) → Decides (lt p q) (Below order (row rows p) (row rows q)) =
+      λ p q. before_decides order (row rows p) (row rows q) in
       let no = sorted_far lt (weak_order order rows lt tells) sorted up i j 0 le (omega (arith, sorted_long)) in
-      not_from_Decides _ (tells (get_or sorted j 0) (get_or sorted i 0)) no (rw (sym (put_back j l), sym (put_back i (omega arith))) b)
+      not_from_Decides _ (tells (get_or sorted j 0) (get_or sorted i 0)) no
+      (rw (sym (put_back j l), sym (put_back i (omega arith))) b)

@@ -8,4 +8,4 @@ pub mod Walks
 pub mod Levels
 pub mod Next
 pub mod Increasing
-pub mod Lines
+pub mod SortedGaps

@@ -5,7 +5,8 @@ use Rattle.orderings.specs.Order.{at, IsOrdering}
 use Rattle.orderings.proofs.Positions.{few, position as found}
 use Rattle.barcode.specs.Bars.{position}
 
-pub position_is : (xs : List ℕ) (k v : ℕ) → k < length xs → at xs k ≡ v → ((j : ℕ) → j < k → at xs j ≡ v → ⊥) → position xs v ≡ k
+pub position_is : (xs : List ℕ) (k v : ℕ) → k < length xs → at xs k ≡ v → ((j : ℕ) → j < k → at xs j ≡ v → ⊥) →
+    position xs v ≡ k
 position_is [] k v l e h = absurd (omega arith)
 position_is (x ∷ xs) zero v l e h = cond-true (eqb x v) 0 (suc (position xs v)) (eq-eqb x v e)
 position_is (x ∷ xs) (suc k) v l e h =
@@ -17,16 +18,19 @@ pub position_holds : (xs : List ℕ) (v : ℕ) → position xs v < length xs →
 position_holds [] v l = absurd (omega arith)
 position_holds (x ∷ xs) v l = elim (cases_eq x v) [
   | inl e ↦ (let p = cond-true (eqb x v) 0 (suc (position xs v)) (eq-eqb x v e) in rw p e)
-  | inr ne ↦ (let p = cond-false (eqb x v) 0 (suc (position xs v)) (ne_eqb x v ne) in rw p (position_holds xs v (omega (arith, l, p))))
+  | inr ne ↦ (let p = cond-false (eqb x v) 0 (suc (position xs v)) (ne_eqb x v ne) in
+      rw p (position_holds xs v (omega (arith, l, p))))
 ]
 
 -- the variable at a position of an ordering stands there first
-pub position_at : (n : ℕ) (order : List ℕ) → IsOrdering n order → (k : ℕ) → k < n → n ≤ 8 → position order (at order k) ≡ k
+pub position_at : (n : ℕ) (order : List ℕ) → IsOrdering n order → (k : ℕ) → k < n → n ≤ 8 →
+    position order (at order k) ≡ k
 position_at n order o k l few =
     position_is order k (at order k) (omega (arith, o.eight)) refl (λ j m e. o.distinct j k m l e)
 
 -- each variable of an ordering stands at its position
-pub stands_at : (n : ℕ) (order : List ℕ) → IsOrdering n order → (v : ℕ) → 1 ≤ v → v ≤ n → (r : ℕ) → r ≡ position order v → (r < n) × (at order r ≡ v)
+pub stands_at : (n : ℕ) (order : List ℕ) → IsOrdering n order → (v : ℕ) → 1 ≤ v → v ≤ n →
+    (r : ℕ) → r ≡ position order v → (r < n) × (at order r ≡ v)
 stands_at n order o v low high r e =
     let (k, l, h) = found n order o v low high in
     let same : position order v ≡ k = ap (position order) (sym h) ∙ position_at n order o k l (few n order o) in

@@ -1,3 +1,7 @@
 pub mod Bars
 pub mod Gap
-pub mod Kept
+pub mod BarSets
+pub mod Rise
+pub mod Sorting
+pub mod BarCode
+pub mod KeptBars
