@@ -6,7 +6,8 @@ use Rattle.barcode.specs.Gap.{IsGap, gap}
 use Rattle.barcode.proofs.Gaps.{gap_is}
 use Rattle.divisions.specs.Janet.{one, IsJanet, star, elsewhere, JanetIsToldByStars, JanetLikeIsToldByGaps}
 
-told : (rows : List Shown) (order : List ℕ) (p v : ℕ) (o : Option ℕ) → IsGap rows order (row rows p) v o → IsJanet rows order p v (one o)
+told : (rows : List Shown) (order : List ℕ) (p v : ℕ) (o : Option ℕ) →
+    IsGap rows order (row rows p) v o → IsJanet rows order p v (one o)
 told rows order p v None g = star g
 told rows order p v (Some d) g = elsewhere (λ s. s g.0.0 g.0.1 g.0.2)
 

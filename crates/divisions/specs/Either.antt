@@ -1,4 +1,4 @@
--- One division or another. Assumes nothing.
+-- What one division or another means. Assumes nothing.
 use Rattle.divisions.specs.declared.OneOf.{OneOf}
 use Rattle.divisions.specs.declared.OneOf.TheVariants.{First, Second}
 use Rattle.divisions.specs.Laws.{Meaning}

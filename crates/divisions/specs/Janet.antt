@@ -19,18 +19,24 @@ janet rows order p v = one (gap rows order p v)
 abbrev pub janet_like : Meaning
 janet_like = gap
 
--- the same by stars and gaps
+-- the same in words: no limit at a star, limit 1 elsewhere
 pub data IsJanet (rows : List Shown) (order : List ℕ) (p v : ℕ) : Option ℕ → Type 0 where
   star : Star rows order (row rows p) v → IsJanet rows order p v None
   elsewhere : (Star rows order (row rows p) v → ⊥) → IsJanet rows order p v (Some 1)
 
+-- at each row Janet division sets its limits by stars
 abbrev pub JanetIsToldByStars : Type 0
-JanetIsToldByStars = (rows : List Shown) (order : List ℕ) (p v : ℕ) → p < length rows → IsJanet rows order p v (janet rows order p v)
+JanetIsToldByStars =
+    (rows : List Shown) (order : List ℕ) (p v : ℕ) → p < length rows →
+    IsJanet rows order p v (janet rows order p v)
 
+-- at each row Janet-like division sets its limits by gaps
 abbrev pub JanetLikeIsToldByGaps : Type 0
-JanetLikeIsToldByGaps = (rows : List Shown) (order : List ℕ) (p v : ℕ) → p < length rows → IsGap rows order (row rows p) v (janet_like rows order p v)
+JanetLikeIsToldByGaps =
+    (rows : List Shown) (order : List ℕ) (p v : ℕ) → p < length rows →
+    IsGap rows order (row rows p) v (janet_like rows order p v)
 
--- the divisions that have a number: 1 for Janet, 2 for Janet-like
+-- what the division of a number means, if there is one: 1 is Janet, 2 is Janet-like
 pub data IsNumbered : ℕ → Option Meaning → Type 0 where
   by_1 : {r : ℕ} → r ≡ 1 → IsNumbered r (Some janet)
   by_2 : {r : ℕ} → r ≡ 2 → IsNumbered r (Some janet_like)

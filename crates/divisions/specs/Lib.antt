@@ -1,4 +1,4 @@
 pub mod Laws
 pub mod Janet
 pub mod Either
-pub mod Kept
+pub mod Lawfulness

@@ -1,31 +1,34 @@
 // Divisions: how far each row may be multiplied in each variable.
 #![tactic(auto)]
 
-ghost use Rattle.std.specs.Prelude.{◌≡◌, map};
+ghost use Rattle.std.specs.Prelude.{◌≡◌};
 ghost use Rattle.std.specs.Option.{option_map};
+ghost use Rattle.barcode.specs.BarCode.{rows_of, order_of};
 ghost use Rattle.divisions.specs.Laws.{Meaning, Lawful};
 ghost use Rattle.divisions.specs.Either.{either};
 ghost use Rattle.divisions.specs.Janet.{janet, janet_like, IsNumbered, JanetIsToldByStars, JanetLikeIsToldByGaps};
-ghost use Rattle.divisions.specs.Kept.{janet_lawful, janet_like_lawful};
+ghost use Rattle.divisions.specs.Lawfulness.{janet_lawful, janet_like_lawful};
 ghost use Rattle.divisions.specs.declared.OneOf.TheVariants.{First, Second};
 
-use barcode::Ranked;
+use barcode::bar_code::BarCode;
 use elements::Element;
 
-// A division gives, for the rows of a sheet, an ordering, the place of a row and a variable, the limit there or none.
+/// A division. Under an ordering it tells for each row and each variable the limit below which the
+/// row may be multiplied in that variable, or that there is none.
 pub trait Division: Copy + Clone {
-    // That function.
+    // What it means: that limit as a function.
     ghost meaning: { Self → Meaning };
 
-    fn limit<E: Element>(&self, ranked: &Ranked<E>, place: usize, variable: u8) -> Option<u16>
-        ensures { result ≡ meaning self.now (map E.Element.shown ranked.now.rows.now) ranked.now.order.now place variable };
+    /// The limit of a variable at the row of a place.
+    fn limit<E: Element>(&self, bar_code: &BarCode<E>, place: usize, variable: u8) -> Option<u16>
+        ensures { result ≡
+            meaning self.now (rows_of bar_code.now) (order_of bar_code.now) place variable };
 
-    // On the rows of a sheet and orderings of its variables, limits are from 1 to 4,096, rows are separated,
-    // and the limit of a variable depends only on the ordering down to it.
+    // It keeps the laws of divisions, which are owed on the rows of a sheet.
     ghost lawful: { (d : Self) → Lawful (meaning d) };
 }
 
-// Janet: no limit at a star, limit 1 elsewhere.
+/// Janet division, of number 1: no limit at a star, limit 1 elsewhere.
 #[derive(Clone, Copy, PartialEq, Eq, Debug)]
 pub struct Janet;
 
@@ -35,8 +38,8 @@ impl Division for Janet {
     ghost lawful = { λ d. janet_lawful };
 
     #[inline(always)]
-    fn limit<E: Element>(&self, ranked: &Ranked<E>, place: usize, variable: u8) -> Option<u16> {
-        if ranked.has_star(place, variable) {
+    fn limit<E: Element>(&self, bar_code: &BarCode<E>, place: usize, variable: u8) -> Option<u16> {
+        if bar_code.has_star(place, variable) {
             None
         } else {
             Some(1)
@@ -44,7 +47,7 @@ impl Division for Janet {
     }
 }
 
-// Janet-like: no limit at a star, the gap elsewhere.
+/// Janet-like division, of number 2: no limit at a star, the gap elsewhere.
 #[derive(Clone, Copy, PartialEq, Eq, Debug)]
 pub struct JanetLike;
 
@@ -54,12 +57,12 @@ impl Division for JanetLike {
     ghost lawful = { λ d. janet_like_lawful };
 
     #[inline(always)]
-    fn limit<E: Element>(&self, ranked: &Ranked<E>, place: usize, variable: u8) -> Option<u16> {
-        ranked.gap(place, variable)
+    fn limit<E: Element>(&self, bar_code: &BarCode<E>, place: usize, variable: u8) -> Option<u16> {
+        bar_code.gap(place, variable)
     }
 }
 
-// One division or another.
+/// One division or another, where which one is known only when the program runs.
 #[derive(Clone, Copy, PartialEq, Eq, Debug)]
 pub enum OneOf<A, B> {
     First(A),
@@ -67,20 +70,21 @@ pub enum OneOf<A, B> {
 }
 
 impl<A: Division, B: Division> Division for OneOf<A, B> {
-    ghost meaning = { either A.Division.meaning B.Division.meaning };
+    ghost meaning = { either A.meaning B.meaning };
 
-    ghost lawful = { elim [ First a ↦ A.Division.lawful a | Second b ↦ B.Division.lawful b ] };
+    ghost lawful = { elim [ First a ↦ A.lawful a | Second b ↦ B.lawful b ] };
 
-    fn limit<E: Element>(&self, ranked: &Ranked<E>, place: usize, variable: u8) -> Option<u16> {
+    fn limit<E: Element>(&self, bar_code: &BarCode<E>, place: usize, variable: u8) -> Option<u16> {
         match self {
-            OneOf::First(a) => a.limit(ranked, place, variable),
-            OneOf::Second(b) => b.limit(ranked, place, variable),
+            OneOf::First(a) => a.limit(bar_code, place, variable),
+            OneOf::Second(b) => b.limit(bar_code, place, variable),
         }
     }
 }
 
-// The division of a number: 1 for Janet, which sets limits by stars, 2 for Janet-like, which sets them by gaps.
-// It is no TryFrom, which would be no plainer: the theorems that this contract names would need another function to carry them.
+/// The division that has a number, if there is one.
+// It is no TryFrom, which would be no plainer: the theorems that this contract names would need
+// another function to carry them.
 pub fn numbered(number: u8) -> Option<OneOf<Janet, JanetLike>>
     ensures number { IsNumbered number (option_map (either (λ _. janet) (λ _. janet_like)) result) }
     ensures stars { JanetIsToldByStars }

@@ -10,4 +10,8 @@ pub returns-in-2 : goal.returns-in-2
 returns-in-2 c = record { number = by_2 c.in-2.is; stars = janet_is_told_by_stars; gaps = janet_like_is_told_by_gaps }
 
 pub returns-in_default : goal.returns-in_default
-returns-in_default c = record { number = by_none (λ e. omega arith) (λ e. omega arith); stars = janet_is_told_by_stars; gaps = janet_like_is_told_by_gaps }
+returns-in_default c = record {
+  number = by_none (λ e. omega arith) (λ e. omega arith);
+  stars = janet_is_told_by_stars;
+  gaps = janet_like_is_told_by_gaps;
+}
