@@ -7,9 +7,10 @@ use Rattle.orderings.specs.Rows.{row, Rows}
 use Rattle.orderings.proofs.Positions.{few, position}
 use Rattle.cones.specs.Cones.{Limits, Separated, InCone, Complete, Greatest, CompleteExactlyWithoutShortfall, JanetLikeCompletesWhatAnyCompletes}
 use Rattle.cones.proofs.Products.{quotient_at, raised, into_times, from_times, divides_on}
-use Rattle.cones.proofs.Divisors.{under, ranked, greatest, cone_greatest}
+use Rattle.cones.proofs.Divisors.{under, in_order, greatest, cone_greatest}
 
-module _ (admits : ℕ → Bool) (n : ℕ) (order : List ℕ) (rows : List Shown) (o : IsOrdering n order) (ok : Rows admits n rows) where
+module _ (admits : ℕ → Bool) (n : ℕ) (order : List ℕ) (rows : List Shown)
+    (o : IsOrdering n order) (ok : Rows admits n rows) where
   is_variable : (v : ℕ) → 1 ≤ v → v ≤ n → Variable v
   is_variable v low high = record { low = low; high = omega (arith, few n order o) }
 
@@ -19,8 +20,9 @@ module _ (admits : ℕ → Bool) (n : ℕ) (order : List ℕ) (rows : List Shown
 
   module _ (lim : Limits) (sep : Separated order rows lim) where
     -- between the greatest row that divides w and w itself all is in that row's cone, if in any
-    kept : (r g : ℕ) (u w : Shown) → Greatest order rows g w → InCone n rows lim r u → Divides (row rows g) u → Divides u w → r ≡ g
-    kept r g u w top cone gu uw = elim (ranked admits n order rows o ok r g cone.place top.place) [
+    kept : (r g : ℕ) (u w : Shown) → Greatest order rows g w → InCone n rows lim r u →
+        Divides (row rows g) u → Divides u w → r ≡ g
+    kept r g u w top cone gu uw = elim (in_order admits n order rows o ok r g cone.place top.place) [
       | inl e ↦ e
       | inr c ↦ absurd (elim c [
         | inl l ↦ (cone_greatest admits n order rows o ok lim sep r u cone).none_above g top.place gu l
@@ -29,18 +31,21 @@ module _ (admits : ℕ → Bool) (n : ℕ) (order : List ℕ) (rows : List Shown
     ]
 
     -- a step of m from the greatest row, which is no step past w, is below that row's limit if it lies in a cone
-    step : (r g v m b : ℕ) (w : Shown) → Greatest order rows g w → 1 ≤ v → v ≤ n → exponent (row rows g) v + m ≤ exponent w v →
+    step : (r g v m b : ℕ) (w : Shown) → Greatest order rows g w → 1 ≤ v → v ≤ n →
+        exponent (row rows g) v + m ≤ exponent w v →
         InCone n rows lim r (times (row rows g) v m) → lim g v ≡ Some b → m < b
     step r g v m b w top low high l cone e =
         let u = row rows g in
         let is = is_variable v low high in
-        let same = kept r g (times u v m) w top cone (divides_times g v m top.place low high) (from_times u v m is w top.divides l) in
+        let above = from_times u v m is w top.divides l in
+        let same = kept r g (times u v m) w top cone (divides_times g v m top.place low high) above in
         let here : InCone n rows lim g (times u v m) = rw same at cone in
         omega (arith, under n rows lim g (times u v m) (few n order o) here v b low high e, raised u v m is)
 
   -- rows are complete for limits that no greatest row lets an element reach
   by_greatest : (jan : Limits) →
-      ((g v m : ℕ) (w : Shown) → Greatest order rows g w → 1 ≤ v → v ≤ n → jan g v ≡ Some m → exponent (row rows g) v + m ≤ exponent w v → ⊥) →
+      ((g v m : ℕ) (w : Shown) → Greatest order rows g w → 1 ≤ v → v ≤ n → jan g v ≡ Some m →
+      ¬ (exponent (row rows g) v + m ≤ exponent w v)) →
       Complete n rows jan
   by_greatest jan never w p h d =
       let (g, top) = greatest admits n order rows o ok w p h d in (
@@ -66,7 +71,8 @@ complete_exactly_without_shortfall admits n order rows lim o ok sep = (
         outside = λ r cone. omega (arith, step admits n order rows o ok lim sep r g v m m w top low high l cone e);
       })),
   λ complete p v m short.
-      let (s, cone) = complete (times (row rows p) v m) p short.place (divides_times admits n order rows o ok p v m short.place short.low short.high) in
+      let divides = divides_times admits n order rows o ok p v m short.place short.low short.high in
+      let (s, cone) = complete (times (row rows p) v m) p short.place divides in
       short.outside s cone,
 )
 
@@ -76,6 +82,7 @@ janet_like_completes_what_any_completes admits n order rows lim jan o ok sep jan
     let (k, hk, is) = position n order o v low high in
     let (q, hq, x, rise) = janet.reached g k m top.place (o.low k hk) (rw is e) in
     let (b, limit, small) = sep g q k top.place hq x in
-    let (r, cone) = complete (times (row rows g) v m) g top.place (divides_times admits n order rows o ok g v m top.place low high) in
+    let divides = divides_times admits n order rows o ok g v m top.place low high in
+    let (r, cone) = complete (times (row rows g) v m) g top.place divides in
     let here : lim g v ≡ Some b = rw is at limit in
     omega (arith, rise, small, step admits n order rows o ok lim sep r g v m b w top low high l cone here))

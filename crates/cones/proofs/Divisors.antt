@@ -14,7 +14,8 @@ use Rattle.cones.proofs.Products.{quotient_at, divides?}
 pub under : (n : ℕ) (rows : List Shown) (lim : Limits) (s : ℕ) (w : Shown) → n ≤ 8 → InCone n rows lim s w →
     (v m : ℕ) → 1 ≤ v → v ≤ n → lim s v ≡ Some m → exponent w v < exponent (row rows s) v + m
 under n rows lim s w few cone v m low high e =
-    omega (arith, cone.multiplier v m low high e, quotient_at (row rows s) w v (record { low = low; high = omega arith }), cone.divides.smaller v)
+    let there = quotient_at (row rows s) w v (record { low = low; high = omega arith }) in
+    omega (arith, cone.multiplier v m low high e, there, cone.divides.smaller v)
 
 -- elements part in a variable
 pub part_low : (order : List ℕ) (k : ℕ) (u w : Shown) → PartAt order k u w → 1 ≤ at order k
@@ -23,7 +24,8 @@ part_low order k u w x = elim (cases_lt (at order k) 1) [
   | inr l ↦ l
 ]
 
-module _ (admits : ℕ → Bool) (n : ℕ) (order : List ℕ) (rows : List Shown) (o : IsOrdering n order) (ok : Rows admits n rows) where
+module _ (admits : ℕ → Bool) (n : ℕ) (order : List ℕ) (rows : List Shown)
+    (o : IsOrdering n order) (ok : Rows admits n rows) where
   -- places with the same row are one
   pub one_place : (p q : ℕ) → p < length rows → q < length rows → row rows p ≡ row rows q → p ≡ q
   one_place p q hp hq e = elim (cases_order p q) [
@@ -32,18 +34,23 @@ module _ (admits : ℕ → Bool) (n : ℕ) (order : List ℕ) (rows : List Shown
   ]
 
   -- two places are one, or the row of one is below that of the other
-  pub ranked : (p q : ℕ) → p < length rows → q < length rows →
+  pub in_order : (p q : ℕ) → p < length rows → q < length rows →
       (p ≡ q) ⊎ (Below order (row rows p) (row rows q) ⊎ Below order (row rows q) (row rows p))
-  ranked p q hp hq = elim (total admits n order o (row rows p) (row rows q) (ok.fit p hp).admitted (ok.fit q hq).admitted) [
-    | inl l ↦ inr (inl l)
-    | inr c ↦ elim c [ inl e ↦ inl (one_place p q hp hq e) | inr l ↦ inr (inr l) ]
-  ]
+  in_order p q hp hq =
+      let compared = total admits n order o (row rows p) (row rows q) in
+      elim (compared (ok.fit p hp).admitted (ok.fit q hq).admitted) [
+        | inl l ↦ inr (inl l)
+        | inr c ↦ elim c [ inl e ↦ inl (one_place p q hp hq e) | inr l ↦ inr (inr l) ]
+      ]
 
   -- two greatest divisors are one
   pub one_greatest : (p q : ℕ) (w : Shown) → Greatest order rows p w → Greatest order rows q w → p ≡ q
-  one_greatest p q w a b = elim (ranked p q a.place b.place) [
+  one_greatest p q w a b = elim (in_order p q a.place b.place) [
     | inl e ↦ e
-    | inr c ↦ absurd (elim c [ inl l ↦ a.none_above q b.place b.divides l | inr l ↦ b.none_above p a.place a.divides l ])
+    | inr c ↦ absurd (elim c [
+      | inl l ↦ a.none_above q b.place b.divides l
+      | inr l ↦ b.none_above p a.place a.divides l
+    ])
   ]
 
   module _ (w : Shown) where
@@ -62,8 +69,13 @@ module _ (admits : ℕ → Bool) (n : ℕ) (order : List ℕ) (rows : List Shown
     best zero h = inl (λ q l. absurd (omega arith))
     best (suc i) h = elim (divides? (row rows i) w (ok.fit i h).admitted.eight) [
       | inl d ↦ elim (best i (omega arith)) [
-        | inl none ↦ inr (i, omega arith, d, more i i (λ q l dq x. none q l dq) (λ _ x. irreflexive order (row rows i) x))
-        | inr b ↦ elim (ranked b.0 i (omega (arith, b.1)) h) [
+        | inl none ↦ inr (
+          i,
+          omega arith,
+          d,
+          more i i (λ q l dq x. none q l dq) (λ _ x. irreflexive order (row rows i) x),
+        )
+        | inr b ↦ elim (in_order b.0 i (omega (arith, b.1)) h) [
           | inl e ↦ absurd (omega (arith, b.1))
           | inr c ↦ elim c [
             | inl x ↦ inr (
@@ -71,9 +83,15 @@ module _ (admits : ℕ → Bool) (n : ℕ) (order : List ℕ) (rows : List Shown
               omega arith,
               d,
               more i i
-                  (λ q l dq y. b.3 q l dq (transitive order (row rows b.0) (row rows i) (row rows q) x y)) (λ _ y. irreflexive order (row rows i) y),
+                  (λ q l dq y. b.3 q l dq (transitive order (row rows b.0) (row rows i) (row rows q) x y))
+                  (λ _ y. irreflexive order (row rows i) y),
             )
-            | inr x ↦ inr (b.0, omega (arith, b.1), b.2, more b.0 i b.3 (λ _ y. asymmetric order (row rows b.0) (row rows i) y x))
+            | inr x ↦ inr (
+              b.0,
+              omega (arith, b.1),
+              b.2,
+              more b.0 i b.3 (λ _ y. asymmetric order (row rows b.0) (row rows i) y x),
+            )
           ]
         ]
       ]
@@ -92,12 +110,14 @@ module _ (admits : ℕ → Bool) (n : ℕ) (order : List ℕ) (rows : List Shown
 
   module _ (lim : Limits) (sep : Separated order rows lim) where
     -- a row has no multiple in its cone of a row that it parts from downwards
-    clash : (p q k : ℕ) (w : Shown) → q < length rows → PartAt order k (row rows p) (row rows q) → InCone n rows lim p w → Divides (row rows q) w → ⊥
+    clash : (p q k : ℕ) (w : Shown) → q < length rows → PartAt order k (row rows p) (row rows q) →
+        InCone n rows lim p w → ¬ Divides (row rows q) w
     clash p q k w hq x cone d =
         let (m, e, l) = sep p q k cone.place hq x in
         let low = part_low order k (row rows p) (row rows q) x in
         let hk = listed n order o k low in
-        omega (arith, under n rows lim p w (few n order o) cone (at order k) m low (o.high k hk) e, l, d.smaller (at order k))
+        let below = under n rows lim p w (few n order o) cone (at order k) m low (o.high k hk) e in
+        omega (arith, below, l, d.smaller (at order k))
 
     pub cone_greatest : (s : ℕ) (w : Shown) → InCone n rows lim s w → Greatest order rows s w
     cone_greatest s w cone = record {
@@ -111,7 +131,9 @@ module _ (admits : ℕ → Bool) (n : ℕ) (order : List ℕ) (rows : List Shown
 
 pub cones_are_disjoint : ConesAreDisjoint
 cones_are_disjoint admits n order rows lim o ok sep p q w a b =
-    one_greatest admits n order rows o ok p q w (cone_greatest admits n order rows o ok lim sep p w a) (cone_greatest admits n order rows o ok lim sep q w b)
+    one_greatest admits n order rows o ok p q w
+    (cone_greatest admits n order rows o ok lim sep p w a)
+    (cone_greatest admits n order rows o ok lim sep q w b)
 
 pub the_cone_is_of_the_greatest_divisor : TheConeIsOfTheGreatestDivisor
 the_cone_is_of_the_greatest_divisor admits n order rows lim o ok sep s w cone =

@@ -18,12 +18,15 @@ power_place v m k l =
 
 -- those of its product with a power
 pub shape_of_product : (u : Shown) (v m : ℕ) (a xs : List ℕ) (f : ℕ) → f ≡ u.family → a ≡ u.exponents → length xs ≡ 8 →
-    ((k : ℕ) → k < 8 → get_or xs k 0 ≡ get_or a k 0 + cond (eqb (k + 1) v) m 0) → record { family = f; exponents = xs } ≡ times u v m
+    ((k : ℕ) → k < 8 → get_or xs k 0 ≡ get_or a k 0 + cond (eqb (k + 1) v) m 0) →
+    record { family = f; exponents = xs } ≡ times u v m
 shape_of_product u v m a xs f ef ea n h =
-    product_written u _ a (power v m) xs f ea ef refl n (λ k l. h k l ∙ ap (λ y. get_or a k 0 + y) (sym (power_place v m k l)))
+    product_written u _ a (power v m) xs f ea ef refl n
+    (λ k l. h k l ∙ ap (λ y. get_or a k 0 + y) (sym (power_place v m k l)))
 
 -- exponents to which the power is added at its place
-pub raised_at : (a xs : List ℕ) (v m x : ℕ) → length xs ≡ 8 → ((k : ℕ) → k < 8 → get_or xs k 0 ≡ get_or a k 0) → 1 ≤ v → v ≤ 8 → x ≡ get_or a (v - 1) 0 + m →
+pub raised_at : (a xs : List ℕ) (v m x : ℕ) → length xs ≡ 8 →
+    ((k : ℕ) → k < 8 → get_or xs k 0 ≡ get_or a k 0) → 1 ≤ v → v ≤ 8 → x ≡ get_or a (v - 1) 0 + m →
     (k : ℕ) → k < 8 → get_or (set xs (v - 1) x) k 0 ≡ get_or a k 0 + cond (eqb (k + 1) v) m 0
 raised_at a xs v m x n same low high is k l = elim (cases_eq k (v - 1)) [
   | inl e ↦ (let there : k + 1 ≡ v = omega (arith, e, low) in
@@ -33,7 +36,9 @@ raised_at a xs v m x n same low high is k l = elim (cases_eq k (v - 1)) [
 ]
 
 -- no variable has such a number
-pub raised_nowhere : (a xs : List ℕ) (v m : ℕ) → ((k : ℕ) → k < 8 → get_or xs k 0 ≡ get_or a k 0) → ((1 ≤ v) × (v ≤ 8) → ⊥) → (k : ℕ) → k < 8 → get_or xs k 0 ≡ get_or a k 0 + cond (eqb (k + 1) v) m 0
+pub raised_nowhere : (a xs : List ℕ) (v m : ℕ) →
+    ((k : ℕ) → k < 8 → get_or xs k 0 ≡ get_or a k 0) → ((1 ≤ v) × (v ≤ 8) → ⊥) →
+    (k : ℕ) → k < 8 → get_or xs k 0 ≡ get_or a k 0 + cond (eqb (k + 1) v) m 0
 raised_nowhere a xs v m same none k l =
     let other : eqb (k + 1) v ≡ false = ne_eqb (k + 1) v (λ e. none (omega (arith, e), omega (arith, e))) in
     rw (cond-false (eqb (k + 1) v) m 0 other) (omega (arith, same k l))

@@ -17,7 +17,8 @@ product_at u t v r = entry_term (λ x. exponent u x + entry t x) v r
 product_past : (u : Shown) (t : List ℕ) (v : ℕ) → 8 < v → exponent (product u t) v ≡ 0
 unfolding product
 product_past u t v l =
-    entry_past (term (λ x. exponent u x + entry t x)) v (omega (arith, length-map-range_with_len (λ x. exponent u x + entry t x) 1 8))
+    let sum : ℕ → ℕ = λ x. exponent u x + entry t x in
+    entry_past (term sum) v (omega (arith, length-map-range_with_len sum 1 8))
 
 power_at : (v m : ℕ) → Variable v → entry (power v m) v ≡ m
 unfolding power
@@ -27,16 +28,22 @@ power_other : (v m x : ℕ) → Variable x → (x ≡ v → ⊥) → entry (powe
 unfolding power
 power_other v m x r d = entry_term (λ x. cond (eqb x v) m 0) x r ∙ cond-false (eqb x v) m 0 (ne_eqb x v d)
 
--- what holds for variable v, for each other variable, and for exponent 0, holds for every variable of a product with a power of v
-times_each : (P : ℕ → ℕ → Type 0) (u : Shown) (v m : ℕ) → Variable v → P v (exponent u v + m) → ((x : ℕ) → Variable x → P x (exponent u x)) →
+-- what holds for variable v, for each other variable, and for exponent 0, holds for every variable of a product with a
+-- power of v
+times_each : (P : ℕ → ℕ → Type 0) (u : Shown) (v m : ℕ) → Variable v →
+    P v (exponent u v + m) → ((x : ℕ) → Variable x → P x (exponent u x)) →
     ((x : ℕ) → (Variable x → ⊥) → P x 0) → (x : ℕ) → P x (exponent (times u v m) x)
 times_each P u v m r here other none x = elim (cases_lt x 1) [
   | inl l ↦ rw (entry_none (times u v m).exponents x l) (none x (λ (h : Variable x). omega (arith, h.low)))
   | inr low ↦ elim (cases_lt 8 x) [
     | inl l ↦ rw (product_past u (power v m) x l) (none x (λ (h : Variable x). omega (arith, h.high)))
     | inr high ↦ (let is : Variable x = record { low = low; high = high } in elim (cases_eq x v) [
-      | inl e ↦ (let sum : exponent (times u v m) x ≡ exponent u v + m = rw e (product_at u (power v m) v r ∙ rw (power_at v m r)) in rw (sum, e) here)
-      | inr d ↦ (let same : exponent (times u v m) x ≡ exponent u x = omega (arith, product_at u (power v m) x is, power_other v m x is d) in rw same (other x is))
+      | inl e ↦ (let added = product_at u (power v m) v r ∙ rw (power_at v m r) in
+          let sum : exponent (times u v m) x ≡ exponent u v + m = rw e added in
+          rw (sum, e) here)
+      | inr d ↦ (let there = product_at u (power v m) x is in
+          let same : exponent (times u v m) x ≡ exponent u x = omega (arith, there, power_other v m x is d) in
+          rw same (other x is))
     ])
   ]
 ]
@@ -59,7 +66,8 @@ module _ (u : Shown) (v m : ℕ) (r : Variable v) where
   pub into_times : length u.exponents ≡ 8 → Divides u (times u v m)
   into_times n = record {
     family = sym (product_family u (power v m));
-    smaller = times_each (λ x e. exponent u x ≤ e) u v m r (omega arith) (λ x _. omega arith) (λ x not. omega (arith, past u x n not));
+    smaller = times_each (λ x e. exponent u x ≤ e) u v m r (omega arith) (λ x _. omega arith)
+        (λ x not. omega (arith, past u x n not));
   }
 
   -- a multiple of u that has m more in v is one of the product

@@ -1,3 +1,4 @@
 pub mod Cones
 pub mod Tables
+pub mod LimitedRows
 pub mod Judged

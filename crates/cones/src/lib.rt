@@ -1,8 +1,8 @@
 // Cones and completeness over a table of limits, and by any division.
 #![tactic(auto)]
 
-pub mod holding;
 pub mod judging;
-mod shapes;
+pub mod limited_rows;
+mod shape;
 pub mod shortfalls;
 pub mod tables;

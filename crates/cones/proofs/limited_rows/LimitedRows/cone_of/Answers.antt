@@ -1,5 +1,5 @@
 use Rattle.cones.proofs.Divisors.{cones_are_disjoint, the_cone_is_of_the_greatest_divisor}
-use Rattle.cones.proofs.holding.Limited.cone_of.Goals as goal
+use Rattle.cones.proofs.limited_rows.LimitedRows.cone_of.Goals as goal
 
 pub returns : goal.returns
 returns g c = record {
