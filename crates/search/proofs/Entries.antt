@@ -21,19 +21,25 @@ pub above_more : (n : ℕ) (q : List ℕ) (m : ℕ) → m < n
     → unused_above n q m ≡ cond (not (has (m + 1) q)) ((m + 1) ∷ unused_above n q (m + 1)) (unused_above n q (m + 1))
 above_more n q m h = let e : n - m ≡ suc (n - suc m) = omega arith in rw (e, add-one)
 
-pub above_yes : (n : ℕ) (q : List ℕ) (m : ℕ) → m < n → has (m + 1) q ≡ false → unused_above n q m ≡ (m + 1) ∷ unused_above n q (m + 1)
+pub above_yes : (n : ℕ) (q : List ℕ) (m : ℕ) → m < n → has (m + 1) q ≡ false →
+    unused_above n q m ≡ (m + 1) ∷ unused_above n q (m + 1)
 above_yes n q m h e = above_more n q m h ∙ cond-true (not (has (m + 1) q)) _ _ (not_from_false _ e)
 
-pub above_no : (n : ℕ) (q : List ℕ) (m : ℕ) → m < n → has (m + 1) q ≡ true → unused_above n q m ≡ unused_above n q (m + 1)
+pub above_no : (n : ℕ) (q : List ℕ) (m : ℕ) → m < n → has (m + 1) q ≡ true →
+    unused_above n q m ≡ unused_above n q (m + 1)
 above_no n q m h e = above_more n q m h ∙ cond-false (not (has (m + 1) q)) _ _ (not_from_true _ e)
 
 -- the first number above m that is found not to be in q is the next that q lacks
-pub next_found : (n : ℕ) (q : List ℕ) (k m : ℕ) (r : Option ℕ) → n - m ≡ k → r ≡ find (λ x. not (has x q)) (map (λ b. b + 1) (range_with_len m k)) →
+pub next_found : (n : ℕ) (q : List ℕ) (k m : ℕ) (r : Option ℕ) → n - m ≡ k →
+    r ≡ find (λ x. not (has x q)) (map (λ b. b + 1) (range_with_len m k)) →
     MatchOption r (unused_above n q m ≡ []) (λ x. unused_above n q m ≡ x ∷ unused_above n q x)
-next_found n q zero m r e f = subst (λ o. MatchOption o (unused_above n q m ≡ []) (λ x. unused_above n q m ≡ x ∷ unused_above n q x)) (sym f) (above_none n q m (omega (arith, e)))
+next_found n q zero m r e f = subst (λ o. MatchOption o (unused_above n q m ≡ [])
+    (λ x. unused_above n q m ≡ x ∷ unused_above n q x)) (sym f) (above_none n q m (omega (arith, e)))
 next_found n q (suc k) m r e f = elim (cases_Bool (has (m + 1) q)) [
-  | inl t ↦ subst (λ us. MatchOption r (us ≡ []) (λ x. us ≡ x ∷ unused_above n q x)) (sym (above_no n q m (omega (arith, e)) t))
+  | inl t ↦ subst (λ us. MatchOption r (us ≡ []) (λ x. us ≡ x ∷ unused_above n q x))
+      (sym (above_no n q m (omega (arith, e)) t))
       (next_found n q k (m + 1) r (omega (arith, e)) (f ∙ cond-false (not (has (m + 1) q)) _ _ (not_from_true _ t)))
-  | inr t ↦ subst (λ o. MatchOption o (unused_above n q m ≡ []) (λ x. unused_above n q m ≡ x ∷ unused_above n q x)) (sym (f ∙ cond-true (not (has (m + 1) q)) _ _ (not_from_false _ t)))
+  | inr t ↦ subst (λ o. MatchOption o (unused_above n q m ≡ []) (λ x. unused_above n q m ≡ x ∷ unused_above n q x))
+      (sym (f ∙ cond-true (not (has (m + 1) q)) _ _ (not_from_false _ t)))
       (above_yes n q m (omega (arith, e)) t)
 ]

@@ -18,8 +18,10 @@ module _ {n : ℕ} {p : List ℕ} {m : ℕ} {q : List ℕ} (f : Fills n p m q) w
     -- it is a variable, and not among the earlier ones
     pub fills_next : Entries n p → ((1 ≤ x) × (x ≤ n)) × (has x q ≡ false)
     fills_next e =
-        let all : Entries n (q ++ (x ∷ unused_above n p x)) = rw step (entries_completed n p e) in
-        (all_middle (λ y. (1 ≤ y) × (y ≤ n)) q x (unused_above n p x) all.range, apart_middle q x (unused_above n p x) all.apart)
+        let all : Entries n (q ++ (x ∷ unused_above n p x)) = rw step (entries_completed n p e) in (
+          all_middle (λ y. (1 ≤ y) × (y ≤ n)) q x (unused_above n p x) all.range,
+          apart_middle q x (unused_above n p x) all.apart,
+        )
 
     pub fills_more : Fills n p x (q ++ (x ∷ []))
     fills_more = record { left = append_assoc q (x ∷ []) (unused_above n p x) ∙ step }
@@ -35,7 +37,8 @@ pub record Filled (n : ℕ) (p : List ℕ) (m k : ℕ) (a : List ℕ) : Type 0 w
 pub filled_start : (n : ℕ) (k : ℕ) (a : List ℕ) → Held n k a → Filled n (take k a) 0 k a
 filled_start n k a h = record { held = h; fills = record { left = refl } }
 
-module _ {n : ℕ} {p : List ℕ} {k : ℕ} {a : List ℕ} (x : ℕ) (f : Filled n p (x - 1) k a) (low : 1 ≤ x) (high : x ≤ n) where
+module _ {n : ℕ} {p : List ℕ} {k : ℕ} {a : List ℕ} (x : ℕ) (f : Filled n p (x - 1) k a) (low : 1 ≤ x)
+    (high : x ≤ n) where
   same : x - 1 + 1 ≡ x
   same = omega arith
 
@@ -43,7 +46,10 @@ module _ {n : ℕ} {p : List ℕ} {k : ℕ} {a : List ℕ} (x : ℕ) (f : Filled
   pub filled_past : has x p ≡ true → Filled n p x k a
   filled_past own = record {
     held = f.held;
-    fills = record { left = ap (λ u. take k a ++ u) (sym (rw same at (above_no n p (x - 1) (omega arith) (rw same own)))) ∙ f.fills.left };
+    fills = record {
+      left = ap (λ u. take k a ++ u) (sym (rw same at (above_no n p (x - 1) (omega arith)
+          (rw same own)))) ∙ f.fills.left;
+    };
   }
 
   -- it is none
@@ -58,7 +64,10 @@ module _ {n : ℕ} {p : List ℕ} {k : ℕ} {a : List ℕ} (x : ℕ) (f : Filled
     filled_room = omega (arith, held_room f.held x fresh.0 fresh.1, f.held.most)
 
     pub filled_with : Filled n p x (k + 1) (set a k x)
-    filled_with = record { held = held_more f.held x fresh.0 fresh.1; fills = rw (taken_more f.held x fresh.0 fresh.1) (fills_more f.fills x next) }
+    filled_with = record {
+      held = held_more f.held x fresh.0 fresh.1;
+      fills = rw (taken_more f.held x fresh.0 fresh.1) (fills_more f.fills x next);
+    }
 
 pub filled_end : (n : ℕ) (p : List ℕ) (m k : ℕ) (a : List ℕ) → n ≤ m → Filled n p m k a → a ≡ completed n p
 filled_end n p m k a through f = f.held.zeros ∙ ap padded (fills_end f.fills (above_none n p m through))

@@ -7,7 +7,7 @@ use Rattle.std.proofs.Math.Bool.{Bool-set}
 use Rattle.std.proofs.Math.Logic.{∥∥₁_elim}
 use Rattle.std.proofs.Math.Seq.{drop-append_seam}
 use Rattle.search.specs.Prefixes.{has, Apart, Entries, Prefix, padded}
-use Rattle.search.specs.declared.prefixes.Prefix.{Prefix as Listed}
+use Rattle.search.specs.declared.prefix.Prefix.{Prefix as Listed}
 use Rattle.search.proofs.Listed.{entries_snoc, entries_front, all_middle, apart_middle}
 use Rattle.search.proofs.Orders.{count_unused, length_padded}
 
@@ -36,7 +36,13 @@ open_entries {n} {q} h = ∥∥₁_elim h (Entries-prop n q) (λ e. e)
 pub held : (p : Listed) → Held p.n p.len p.entries
 held p =
     let short : length (take p.len p.entries) ≤ 8 = omega (arith, length-take p.len p.entries, p.within, p.few) in
-    record { long = ap length p.zeros ∙ length_padded (take p.len p.entries) short; most = p.few; within = p.within; proper = open_entries p.proper; zeros = p.zeros }
+    record {
+      long = ap length p.zeros ∙ length_padded (take p.len p.entries) short;
+      most = p.few;
+      within = p.within;
+      proper = open_entries p.proper;
+      zeros = p.zeros;
+    }
 
 -- a list that lacks one of n numbers has fewer than n
 room : (n : ℕ) (q : List ℕ) (x : ℕ) → Entries n q → (1 ≤ x) × (x ≤ n) → has x q ≡ false → length q < n
@@ -51,10 +57,12 @@ module _ {n k : ℕ} {a : List ℕ} (h : Held n k a) where
   tail : drop k a ≡ replicate (8 - k) 0
   tail =
       subst (λ (i : ℕ). drop i a ≡ replicate (8 - i) 0) length_held
-      (ap (λ (b : List ℕ). drop (length (take k a)) b) h.zeros ∙ drop-append_seam (take k a) (replicate (8 - length (take k a)) 0))
+      (ap (λ (b : List ℕ). drop (length (take k a)) b) h.zeros
+      ∙ drop-append_seam (take k a) (replicate (8 - length (take k a)) 0))
 
   pub held_prefix : 1 ≤ k → Prefix n (take k a)
-  held_prefix some = record { some = omega (arith, length_held); most = omega (arith, length_held, h.within); entries = h.proper }
+  held_prefix some =
+      record { some = omega (arith, length_held); most = omega (arith, length_held, h.within); entries = h.proper }
 
   module _ (j : ℕ) (z : k ≡ suc j) where
     place : j < length a
@@ -97,7 +105,8 @@ module _ {n k : ℕ} {a : List ℕ} (h : Held n k a) where
     after : drop (suc k) a ≡ replicate (8 - suc k) 0
     after =
         let w : 8 - k ≡ suc (8 - suc k) = omega (arith, h.most, held_room) in
-        let split : get_or a k 0 ∷ drop (suc k) a ≡ 0 ∷ replicate (8 - suc k) 0 = sym (drop-cons a k 0 inside) ∙ tail ∙ ap (λ (i : ℕ). replicate i 0) w in
+        let split : get_or a k 0 ∷ drop (suc k) a ≡ 0 ∷ replicate (8 - suc k) 0 =
+        sym (drop-cons a k 0 inside) ∙ tail ∙ ap (λ (i : ℕ). replicate i 0) w in
         cc split
 
     pub held_more : Held n (k + 1) (set a k x)
@@ -107,6 +116,8 @@ module _ {n k : ℕ} {a : List ℕ} (h : Held n k a) where
       within = omega (arith, held_room);
       proper = rw taken_more (entries_snoc n (take k a) x h.proper range unused);
       zeros =
-          let longer : length (take k a ++ (x ∷ [])) ≡ suc k = omega (arith, length-append (take k a) (x ∷ []), length_held) in
-          rw taken_more (set_split a k x inside ∙ rw (longer, after) (sym (append_assoc (take k a) (x ∷ []) (replicate (8 - suc k) 0))));
+          let longer : length (take k a ++ (x ∷ [])) ≡ suc k =
+          omega (arith, length-append (take k a) (x ∷ []), length_held) in
+          rw taken_more (set_split a k x inside ∙ rw (longer, after)
+          (sym (append_assoc (take k a) (x ∷ []) (replicate (8 - suc k) 0))));
     }

@@ -12,6 +12,6 @@ pub mod Tested
 pub mod Writing
 pub mod Locating
 pub mod Extending
-pub mod Walk
+pub mod Rest
 pub mod Stepping
 pub mod Dividing

@@ -1,33 +1,41 @@
 -- A table of cones while limits come and go. Assumes nothing.
-use Rattle.std.proofs.Common.{◌≡◌, ℕ, ◌+◌, ◌-◌, ◌<◌, ◌≤◌, true, false, not, ◌&&◌, eqb, ◌⊎◌, List, [], length, get_or, set, replicate, Some, None, Option, sym, refl, ap, ◌∙◌, inl, inr, arith}
+use Rattle.std.proofs.Common.{◌≡◌, ℕ, ◌+◌, ◌-◌, ◌<◌, ◌≤◌, true, false, eqb, ◌⊎◌, List, [], length, get_or, set, replicate, Some, None, sym, refl, ap, ◌∙◌, inl, inr, arith}
 use Rattle.std.proofs.lemmas.List.{get_or-set_same, get_or-set_other, get_or_default, length-set}
 use Rattle.std.proofs.lemmas.Bool.{cases_eq, cases_lt, eq-eqb, ne_eqb, cond-true, cond-false, false≢true}
 use Rattle.elements.specs.Element.{Shown, exponent, times, Variable}
 use Rattle.orderings.specs.Rows.{row}
-use Rattle.places.specs.Places.{among}
+use Rattle.places.specs.Places.{contains, IsEmpty, Removes}
+use Rattle.places.specs.declared.Places.{Places}
 use Rattle.cones.specs.Cones.{Limits, InCone}
 use Rattle.cones.proofs.Alike.{Same}
 use Rattle.cones.proofs.Products.{quotient_at}
 use Rattle.search.specs.Liveness.{raised}
-use Rattle.search.specs.Columns.{Limiting, cones_at, cone_at, Located, without, Relocated}
+use Rattle.search.specs.Columns.{column, HasLimitedPlaces, cones_at, cone_at, TellsCones, without, Relocated}
 use Rattle.search.proofs.Deadness.{AmongLimits}
 use Rattle.search.proofs.Testing.{times_at}
-
-pub some_none : {X : Type 0} (d : ℕ) → ◌≡◌ {A = Option ℕ} None (Some d) → X
-some_none d e = absurd (let z : ◌≡◌ {A = ℕ} 0 1 = cc in omega arith)
+use Rattle.search.proofs.Writing.{no_limit}
 
 -- fewer limits leave elements in their cones
-pub cone_less : (n : ℕ) (rows : List Shown) (lim other : Limits) → AmongLimits n rows lim other → (s : ℕ) (w : Shown) → InCone n rows other s w → InCone n rows lim s w
+pub cone_less : (n : ℕ) (rows : List Shown) (lim other : Limits) → AmongLimits n rows lim other → (s : ℕ) (w : Shown) →
+    InCone n rows other s w → InCone n rows lim s w
 cone_less n rows lim other more s w c =
-    record { place = c.place; divides = c.divides; multiplier = λ v m low high e. c.multiplier v m low high (more s v m c.place low high e) }
+    record {
+      place = c.place;
+      divides = c.divides;
+      multiplier = λ v m low high e. c.multiplier v m low high
+          (more s v m c.place low high e);
+    }
 
-pub located_less : (n : ℕ) (rows : List Shown) (lim other : Limits) (cones : List (List ℕ)) → AmongLimits n rows lim other → Located n rows other cones → Located n rows lim cones
+pub located_less : (n : ℕ) (rows : List Shown) (lim other : Limits) (cones : List (List ℕ)) →
+    AmongLimits n rows lim other → TellsCones n rows other cones → TellsCones n rows lim cones
 located_less n rows lim other cones more l = record {
   wide = l.wide;
-  cone = λ q v d hq low high e. cone_less n rows lim other more (cone_at cones q v) (times (row rows q) v d) (l.cone q v d hq low high (more q v d hq low high e));
+  cone = λ q v d hq low high e. cone_less n rows lim other more (cone_at cones q v) (times (row rows q) v d)
+      (l.cone q v d hq low high (more q v d hq low high e));
 }
 
-pub located_alike : (n : ℕ) (rows : List Shown) (lim other : Limits) (cones : List (List ℕ)) → Same n rows lim other → Located n rows lim cones → Located n rows other cones
+pub located_alike : (n : ℕ) (rows : List Shown) (lim other : Limits) (cones : List (List ℕ)) → Same n rows lim other →
+    TellsCones n rows lim cones → TellsCones n rows other cones
 located_alike n rows lim other cones same l =
     located_less n rows other lim cones (λ q v d hq low high e. same q v hq low high ∙ e) l
 
@@ -40,7 +48,7 @@ module _ (n : ℕ) (rows : List Shown) (x : ℕ) (lim : Limits) where
 
   without_among : AmongLimits n rows (without x lim) lim
   without_among q v d hq low high e = elim (cases_eq v x) [
-    | inl s ↦ some_none d (sym (without_same q v s) ∙ e)
+    | inl s ↦ no_limit d (sym (without_same q v s) ∙ e)
     | inr o ↦ sym (without_other q v o) ∙ e
   ]
 
@@ -52,21 +60,32 @@ module _ (n : ℕ) (rows : List Shown) (x : ℕ) (lim : Limits) where
     divides = c.divides;
     multiplier = λ y m low high e. elim (cases_eq y x) [
       | inl is ↦ (let r : Variable y = record { low = low; high = omega arith } in
-          let same : raised u v d y ≡ exponent u y + 0 = ap (λ (b : ℕ). exponent u y + b) (cond-false (eqb y v) d 0 (ne_eqb y v (λ z. other (sym z ∙ is)))) in
-          let here : exponent u y < exponent (row rows s) y + m = rw is (within m (ap (λ (z : ℕ). lim s z) (sym is) ∙ e)) in
-          omega (arith, quotient_at (row rows s) (times u v d) y r, times_at u v d y r, same, here, c.divides.smaller y))
+          let same : raised u v d y ≡ exponent u y + 0 =
+          ap (λ (b : ℕ). exponent u y + b) (cond-false (eqb y v) d 0 (ne_eqb y v (λ z. other (sym z ∙ is)))) in
+          let here : exponent u y < exponent (row rows s) y + m =
+          rw is (within m (ap (λ (z : ℕ). lim s z) (sym is) ∙ e)) in
+          omega (
+            arith,
+            quotient_at (row rows s) (times u v d) y r,
+            times_at u v d y r,
+            same,
+            here,
+            c.divides.smaller y,
+          ))
       | inr o ↦ c.multiplier y m low high (without_other s y o ∙ e)
     ];
   }
 
 -- what is written is read, and the rest is as it was
-module _ (cones : List (List ℕ)) (p v s : ℕ) (inside : p < length cones) (wide : (q : ℕ) → length (cones_at cones q) ≡ 8) (low : 1 ≤ v) (high : v ≤ 8) where
+module _ (cones : List (List ℕ)) (p v s : ℕ) (inside : p < length cones)
+    (wide : (q : ℕ) → length (cones_at cones q) ≡ 8) (low : 1 ≤ v) (high : v ≤ 8) where
   written : List (List ℕ)
   written = set cones p (set (get_or cones p []) (v - 1) s)
 
   row_here : cones_at written p ≡ set (cones_at cones p) (v - 1) s
   unfolding written
-  row_here = get_or-set_same cones p (set (get_or cones p []) (v - 1) s) (replicate 8 0) inside ∙ ap (λ xs. set xs (v - 1) s) (get_or_default cones p [] (replicate 8 0) inside)
+  row_here = get_or-set_same cones p (set (get_or cones p []) (v - 1) s) (replicate 8 0) inside
+      ∙ ap (λ xs. set xs (v - 1) s) (get_or_default cones p [] (replicate 8 0) inside)
 
   row_other : (q : ℕ) → (q ≡ p → ⊥) → cones_at written q ≡ cones_at cones q
   unfolding written
@@ -79,19 +98,23 @@ module _ (cones : List (List ℕ)) (p v s : ℕ) (inside : p < length cones) (wi
   ]
 
   written_here : cone_at written p v ≡ s
-  written_here = ap (λ xs. get_or xs (v - 1) 0) row_here ∙ get_or-set_same (cones_at cones p) (v - 1) s 0 (omega (arith, wide p))
+  written_here =
+      ap (λ xs. get_or xs (v - 1) 0) row_here ∙ get_or-set_same (cones_at cones p) (v - 1) s 0 (omega (arith, wide p))
 
   written_other : (q w : ℕ) → 1 ≤ w → ((q ≡ p) × (w ≡ v) → ⊥) → cone_at written q w ≡ cone_at cones q w
   written_other q w some d = elim (cases_eq q p) [
-    | inl e ↦ rw e (ap (λ xs. get_or xs (w - 1) 0) row_here ∙ get_or-set_other (cones_at cones p) (v - 1) (w - 1) s 0 (λ z. d (e, omega arith)))
+    | inl e ↦ rw e (ap (λ xs. get_or xs (w - 1) 0) row_here ∙ get_or-set_other (cones_at cones p) (v - 1) (w - 1) s 0
+        (λ z. d (e, omega arith)))
     | inr o ↦ ap (λ xs. get_or xs (w - 1) 0) (row_other q o)
   ]
 
 -- the products of the places and variables that are done are in the cones that the table tells
-pub record Going (n : ℕ) (rows : List Shown) (x : ℕ) (lim : Limits) (done : ℕ → ℕ → Type 0) (cones : List (List ℕ)) : Type 0 where
+pub record Going (n : ℕ) (rows : List Shown) (x : ℕ) (lim : Limits) (done : ℕ → ℕ → Type 0)
+    (cones : List (List ℕ)) : Type 0 where
   pub long : length cones ≡ 64
-  pub others : Located n rows (without x lim) cones
-  pub found : (q w d : ℕ) → done q w → q < length rows → 1 ≤ w → w ≤ n → lim q w ≡ Some d → InCone n rows lim (cone_at cones q w) (times (row rows q) w d)
+  pub others : TellsCones n rows (without x lim) cones
+  pub found : (q w d : ℕ) → done q w → q < length rows → 1 ≤ w → w ≤ n → lim q w ≡ Some d →
+      InCone n rows lim (cone_at cones q w) (times (row rows q) w d)
 
 -- the first k steps are done: x is the first, and each other variable has the step of its number
 abbrev pub Through : ℕ → ℕ → ℕ → ℕ → Type 0
@@ -105,17 +128,14 @@ pub record InTurn (n x k v : ℕ) : Type 0 where
   pub high : v ≤ n
 
 -- and variable v is done but at the places that are left
-abbrev pub Beside : (ℕ → ℕ → Type 0) → ℕ → ℕ → ℕ → ℕ → Type 0
-Beside done v left q w = done q w ⊎ ((w ≡ v) × (among left q ≡ false))
-
--- place p is taken out of those
-abbrev pub TakenOut : ℕ → ℕ → ℕ → Type 0
-TakenOut left p rest = (q : ℕ) → among rest q ≡ (not (eqb q p) && among left q)
+abbrev pub Beside : (ℕ → ℕ → Type 0) → ℕ → Places → ℕ → ℕ → Type 0
+Beside done v left q w = done q w ⊎ ((w ≡ v) × (contains left q ≡ false))
 
 module _ (n : ℕ) (rows : List Shown) (x : ℕ) (lim : Limits) where
   module _ (done : ℕ → ℕ → Type 0) (v : ℕ) (cones : List (List ℕ)) where
     -- variable v begins: only the rows of the places that are told for it have limits
-    pub going_in : (left : ℕ) → Limiting (λ q. lim q v) (length rows) left → Going n rows x lim done cones → Going n rows x lim (Beside done v left) cones
+    pub going_in : (left : Places) → HasLimitedPlaces (column lim v) (length rows) left →
+        Going n rows x lim done cones → Going n rows x lim (Beside done v left) cones
     going_in left limiting g = record {
       long = g.long;
       others = g.others;
@@ -125,9 +145,9 @@ module _ (n : ℕ) (rows : List Shown) (x : ℕ) (lim : Limits) where
       ];
     }
 
-    module _ (left : ℕ) (g : Going n rows x lim (Beside done v left) cones) where
-      module _ (p rest : ℕ) (taken : TakenOut left p rest) where
-        other_left : (q : ℕ) → (q ≡ p → ⊥) → among rest q ≡ false → among left q ≡ false
+    module _ (left : Places) (g : Going n rows x lim (Beside done v left) cones) where
+      module _ (p : ℕ) (rest : Places) (taken : Removes left rest p) where
+        other_left : (q : ℕ) → (q ≡ p → ⊥) → contains rest q ≡ false → contains left q ≡ false
         other_left q o f = rw (taken q, ne_eqb q p o) at f
 
         -- no limit at the place that is taken out
@@ -138,14 +158,16 @@ module _ (n : ℕ) (rows : List Shown) (x : ℕ) (lim : Limits) where
           found = λ q w d h hq low high e. elim h [
             | inl a ↦ g.found q w d (inl a) hq low high e
             | inr b ↦ elim (cases_eq q p) [
-              | inl z ↦ some_none d (sym (none (omega (arith, z, hq))) ∙ ap (λ (i : ℕ). lim i v) (sym z) ∙ ap (λ (i : ℕ). lim q i) (sym b.0) ∙ e)
+              | inl z ↦ no_limit d (sym (none (omega (arith, z, hq))) ∙ ap (λ (i : ℕ). lim i v) (sym z)
+                  ∙ ap (λ (i : ℕ). lim q i) (sym b.0) ∙ e)
               | inr o ↦ g.found q w d (inr (b.0, other_left q o b.1)) hq low high e
             ]
           ];
         }
 
         -- a cone is found there
-        going_on : (d s : ℕ) → p < length cones → 1 ≤ v → v ≤ 8 → lim p v ≡ Some d → InCone n rows lim s (times (row rows p) v d) →
+        going_on : (d s : ℕ) → p < length cones → 1 ≤ v → v ≤ 8 → lim p v ≡ Some d →
+            InCone n rows lim s (times (row rows p) v d) →
             Going n rows x lim (Beside done v rest) (set cones p (set (get_or cones p []) (v - 1) s))
         unfolding written
         going_on d s inside low high is cone = record {
@@ -155,9 +177,11 @@ module _ (n : ℕ) (rows : List Shown) (x : ℕ) (lim : Limits) where
             cone = λ q w k hq some most e. elim (cases_eq q p) [
               | inl a ↦ elim (cases_eq w v) [
                 | inl b ↦ here_others q w k a b (without_among n rows x lim q w k hq some most e)
-                | inr b ↦ rw (written_other cones p v s inside g.others.wide low high q w some (λ z. b z.1)) (g.others.cone q w k hq some most e)
+                | inr b ↦ rw (written_other cones p v s inside g.others.wide low high q w some (λ z. b z.1))
+                    (g.others.cone q w k hq some most e)
               ]
-              | inr a ↦ rw (written_other cones p v s inside g.others.wide low high q w some (λ z. a z.0)) (g.others.cone q w k hq some most e)
+              | inr a ↦ rw (written_other cones p v s inside g.others.wide low high q w some (λ z. a z.0))
+                  (g.others.cone q w k hq some most e)
             ];
           };
           found = λ q w k h hq some most e. elim (cases_eq q p) [
@@ -171,16 +195,22 @@ module _ (n : ℕ) (rows : List Shown) (x : ℕ) (lim : Limits) where
           ];
         }
           where
-            here : (q w k : ℕ) → q ≡ p → w ≡ v → lim q w ≡ Some k → InCone n rows lim (cone_at (written cones p v s inside g.others.wide low high) q w) (times (row rows q) w k)
+            here : (q w k : ℕ) → q ≡ p → w ≡ v → lim q w ≡ Some k →
+                InCone n rows lim (cone_at (written cones p v s inside g.others.wide low high) q w)
+                (times (row rows q) w k)
             here q w k a b e =
                 let same : d ≡ k = cc (rw (a, b) at e, is) in
                 rw (a, b, written_here cones p v s inside g.others.wide low high, sym same) cone
 
-            here_others : (q w k : ℕ) → q ≡ p → w ≡ v → lim q w ≡ Some k → InCone n rows (without x lim) (cone_at (written cones p v s inside g.others.wide low high) q w) (times (row rows q) w k)
-            here_others q w k a b e = cone_less n rows (without x lim) lim (without_among n rows x lim) _ _ (here q w k a b e)
+            here_others : (q w k : ℕ) → q ≡ p → w ≡ v → lim q w ≡ Some k →
+                InCone n rows (without x lim) (cone_at (written cones p v s inside g.others.wide low high) q w)
+                (times (row rows q) w k)
+            here_others q w k a b e =
+                cone_less n rows (without x lim) lim (without_among n rows x lim) _ _ (here q w k a b e)
 
       -- where variable v has limit d at the row u of place p, as the code reads it
-      module _ (p d : ℕ) (u : Shown) (here : row rows p ≡ u) (l : p < length rows) (few : length rows ≤ 64) (low : 1 ≤ v) (high : v ≤ n) (most : n ≤ 8) (is : lim p v ≡ Some d)
+      module _ (p d : ℕ) (u : Shown) (here : row rows p ≡ u) (l : p < length rows) (few : length rows ≤ 64)
+          (low : 1 ≤ v) (high : v ≤ n) (most : n ≤ 8) (is : lim p v ≡ Some d)
           (told : ℕ) (reads : told ≡ get_or (get_or cones p []) (v - 1) 0) where
         -- the place that the table tells holds the product by the limits of the others
         abbrev Told : Type 0
@@ -189,29 +219,44 @@ module _ (n : ℕ) (rows : List Shown) (x : ℕ) (lim : Limits) where
         holds : Told
         holds other =
             let inside : p < length cones = omega (arith, g.long) in
-            rw (reads, get_or_default cones p [] (replicate 8 0) inside, ← here) (g.others.cone p v d l low high (without_other n rows x lim p v other ∙ is))
+            rw (reads, get_or_default cones p [] (replicate 8 0) inside, ← here)
+            (g.others.cone p v d l low high (without_other n rows x lim p v other ∙ is))
 
         -- a cone is found, if one is wherever that is so
-        pub cone_found : (s rest : ℕ) → TakenOut left p rest → (Told → InCone n rows lim s (times u v d)) → Going n rows x lim (Beside done v rest) (set cones p (set (get_or cones p []) (v - 1) s))
-        cone_found s rest taken found = going_on p rest taken d s (omega (arith, g.long)) low (omega arith) is (rw here (found holds))
+        pub cone_found : (s : ℕ) (rest : Places) → Removes left rest p → (Told → InCone n rows lim s (times u v d)) →
+            Going n rows x lim (Beside done v rest) (set cones p (set (get_or cones p []) (v - 1) s))
+        cone_found s rest taken found =
+            going_on p rest taken d s (omega (arith, g.long)) low (omega arith) is (rw here (found holds))
 
         -- or none holds the product
         pub none_found : (Told → (s : ℕ) → InCone n rows lim s (times u v d) → ⊥) → Relocated n rows x lim false cones
         none_found none = record {
-          told = (λ t. absurd (false≢true t), λ all. absurd (all p v d (record { place = l; low = low; high = high; limit = is; outside = rw here (none holds) })));
+          told = (
+            λ t. absurd (false≢true t),
+            λ all. absurd (all p v d
+                (record { place = l; low = low; high = high; limit = is; outside = rw here (none holds) })),
+          );
           others = g.others;
           all = λ t. absurd (false≢true t);
         }
 
   module _ (k : ℕ) (cones : List (List ℕ)) where
     -- no place is left
-    pub going_out : (v left : ℕ) → Going n rows x lim (Beside (Through x k) v left) cones → InTurn n x k v → ((p : ℕ) → among left p ≡ false) → Going n rows x lim (Through x (k + 1)) cones
+    pub going_out : (v : ℕ) (left : Places) → Going n rows x lim (Beside (Through x k) v left) cones → InTurn n x k v →
+        IsEmpty left → Going n rows x lim (Through x (k + 1)) cones
     going_out v left g turn none = record {
       long = g.long;
       others = g.others;
       found = λ q w d h hq low high e. g.found q w d (elim h [
-        | inl a ↦ elim (cases_lt 0 k) [ inl l ↦ inl (inl (a.0, l)) | inr z ↦ inr (a.0 ∙ sym (turn.first (omega arith)), none q) ]
-        | inr b ↦ elim (cases_eq w k) [ inl z ↦ inr (z ∙ sym (turn.later (omega arith)), none q) | inr o ↦ inl (inr (omega arith)) ]
+        | inl a ↦ elim (cases_lt 0 k) [
+          | inl l ↦ inl (inl (a.0, l))
+          | inr z ↦
+              inr (a.0 ∙ sym (turn.first (omega arith)), none q)
+        ]
+        | inr b ↦ elim (cases_eq w k) [
+          | inl z ↦ inr (z ∙ sym (turn.later (omega arith)), none q)
+          | inr o ↦ inl (inr (omega arith))
+        ]
       ]) hq low high e;
     }
 
@@ -229,7 +274,15 @@ module _ (n : ℕ) (rows : List Shown) (x : ℕ) (lim : Limits) where
     -- all steps are done
     pub going_done : n < k → Going n rows x lim (Through x k) cones → Relocated n rows x lim true cones
     going_done through g = record {
-      told = (λ _ q w d short. short.outside (cone_at cones q w) (g.found q w d (inr (omega (arith, short.high))) short.place short.low short.high short.limit), λ _. refl);
+      told = (
+        λ _ q w d short. short.outside (cone_at cones q w)
+            (g.found q w d (inr (omega (arith, short.high))) short.place short.low short.high short.limit),
+        λ _. refl,
+      );
       others = g.others;
-      all = λ _. record { wide = g.others.wide; cone = λ q w d hq low high e. g.found q w d (inr (omega arith)) hq low high e };
+      all = λ _. record {
+        wide = g.others.wide;
+        cone = λ q w d hq low high e. g.found q w d (inr (omega arith)) hq low
+            high e;
+      };
     }

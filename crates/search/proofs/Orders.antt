@@ -1,5 +1,6 @@
 -- The orderings that prefixes begin. Assumes nothing.
 use Rattle.std.proofs.Common.{◌≡◌, ℕ, zero, suc, ◌+◌, ◌-◌, ◌<◌, ◌≤◌, true, false, not, eqb, List, [], ◌∷◌, ◌++◌, length, get_or, take, replicate, filter, sym, refl, ap, ◌∙◌, inl, inr, append-nil, not-suc-le-zero, arith, length-append, length-take-le, get_or-take, take_at}
+use Rattle.search.proofs.Listed.{Sorted}
 use lib.ListN.{length-replicate}
 use lib.Seq.{take-append-le}
 use Rattle.std.specs.List.{AllByRecursion as All}
@@ -8,7 +9,7 @@ use Rattle.std.proofs.lemmas.List.{get_or_past, get_or_append_left, get_or-appen
 use Rattle.std.proofs.lemmas.Bool.{eq-eqb, ne_eqb, eqb-true, or_left, or_from, or_parts, or_cases, both_ways, false≢true, cases_lt, cases_eq, cases_Bool, not-true}
 use Rattle.orderings.specs.Order.{at, IsOrdering}
 use Rattle.orderings.proofs.Positions.{few}
-use Rattle.search.specs.Prefixes.{after, has, unused_above, Apart, Entries, Prefix, Sorted, padded, completed}
+use Rattle.search.specs.Prefixes.{after, has, unused_above, Apart, Entries, Prefix, padded, completed}
 use Rattle.search.proofs.Entries.{has_at}
 use Rattle.search.proofs.Listed.{unused_all, kept_sorted, after_sorted}
 
@@ -22,10 +23,12 @@ has_index (y ∷ ys) x h = elim (or_cases (eqb y x) (has x ys) h) [
 
 -- how many numbers are unused
 
-missing : (m k y : ℕ) (ys : List ℕ) → y ≤ m → filter (λ x. not (has x (y ∷ ys))) (after m k) ≡ filter (λ x. not (has x ys)) (after m k)
+missing : (m k y : ℕ) (ys : List ℕ) → y ≤ m → filter (λ x. not (has x (y ∷ ys))) (after m k) ≡
+    filter (λ x. not (has x ys)) (after m k)
 missing m zero y ys h = refl
 missing m (suc k) y ys h =
-    let other : eqb y (suc m) ≡ false = ne_eqb y (suc m) (λ e. omega arith) in rw (other, missing (suc m) k y ys (omega arith))
+    let other : eqb y (suc m) ≡ false = ne_eqb y (suc m) (λ e. omega arith) in
+    rw (other, missing (suc m) k y ys (omega arith))
 
 one_less : (m k y : ℕ) (ys : List ℕ) → m < y → y ≤ m + k → has y ys ≡ false →
     length (filter (λ x. not (has x (y ∷ ys))) (after m k)) + 1 ≡ length (filter (λ x. not (has x ys)) (after m k))
@@ -58,18 +61,21 @@ lacking y (x ∷ xs) h = or_from (eqb x y) (has y xs) (ne_eqb x y h.0) (lacking 
 
 sorted_apart : (u : List ℕ) → Sorted ◌<◌ u → Apart u
 sorted_apart [] h = tt
-sorted_apart (x ∷ xs) h = (lacking x xs (All-weaker (λ y. x < y) (λ y. y ≡ x → ⊥) (λ y l e. omega arith) xs h.0), sorted_apart xs h.1)
+sorted_apart (x ∷ xs) h =
+    (lacking x xs (All-weaker (λ y. x < y) (λ y. y ≡ x → ⊥) (λ y l e. omega arith) xs h.0), sorted_apart xs h.1)
 
 has_append : (y : ℕ) (p u : List ℕ) → has y p ≡ false → has y u ≡ false → has y (p ++ u) ≡ false
 has_append y [] u h k = k
-has_append y (x ∷ xs) u h k = let (a, b) = or_parts (eqb x y) (has y xs) h in or_from (eqb x y) (has y (xs ++ u)) a (has_append y xs u b k)
+has_append y (x ∷ xs) u h k = let (a, b) = or_parts (eqb x y) (has y xs) h in
+    or_from (eqb x y) (has y (xs ++ u)) a (has_append y xs u b k)
 
 apart_append : (p u : List ℕ) → Apart p → Apart u → All (λ x. has x p ≡ false) u → Apart (p ++ u)
 apart_append [] u h k out = k
 apart_append (y ∷ ys) u h k out = (
   has_append y ys u h.0 (lacking y u (All-weaker (λ x. has x (y ∷ ys) ≡ false) (λ x. x ≡ y → ⊥)
       (λ x f e. both_ways (has x (y ∷ ys)) f (or_left (eqb y x) (has x ys) (eq-eqb y x (sym e)))) u out)),
-  apart_append ys u h.1 k (All-weaker (λ x. has x (y ∷ ys) ≡ false) (λ x. has x ys ≡ false) (λ x f. (or_parts (eqb y x) (has x ys) f).1) u out),
+  apart_append ys u h.1 k (All-weaker (λ x. has x (y ∷ ys) ≡ false) (λ x. has x ys ≡ false)
+      (λ x f. (or_parts (eqb y x) (has x ys) f).1) u out),
 )
 
 -- the entries of a prefix, and the unused numbers
@@ -79,9 +85,12 @@ entries_completed n p h =
     let facts = unused_all n p 0 in
     record {
       range = All-append (λ x. (1 ≤ x) × (x ≤ n)) p u h.range
-          (All-weaker (λ x. ((0 < x) × (x ≤ n)) × (not (has x p) ≡ true)) (λ x. (1 ≤ x) × (x ≤ n)) (λ x f. f.0) u facts);
-      apart = apart_append p u h.apart (sorted_apart u (kept_sorted ◌<◌ (λ x. not (has x p)) (after 0 (n - 0)) (after_sorted 0 (n - 0))))
-          (All-weaker (λ x. ((0 < x) × (x ≤ n)) × (not (has x p) ≡ true)) (λ x. has x p ≡ false) (λ x f. not-true (has x p) f.1) u facts);
+          (All-weaker (λ x. ((0 < x) × (x ≤ n)) × (not (has x p) ≡ true)) (λ x. (1 ≤ x) × (x ≤ n)) (λ x f. f.0) u
+          facts);
+      apart = apart_append p u h.apart (sorted_apart u (kept_sorted ◌<◌ (λ x. not (has x p)) (after 0 (n - 0))
+          (after_sorted 0 (n - 0))))
+          (All-weaker (λ x. ((0 < x) × (x ≤ n)) × (not (has x p) ≡ true)) (λ x. has x p ≡ false)
+          (λ x f. not-true (has x p) f.1) u facts);
     }
 
 pub length_completed : (n : ℕ) (p : List ℕ) → Entries n p → length (p ++ unused_above n p 0) ≡ n
@@ -116,19 +125,23 @@ padded_past q k h =
     get_or-append_right q (replicate (8 - length q) 0) (length q) k 0 refl h ∙ zero_past (8 - length q) (k - length q)
 
 pub length_padded : (q : List ℕ) → length q ≤ 8 → length (padded q) ≡ 8
-length_padded q h = omega (arith, length-append q (replicate (8 - length q) 0), length-replicate {A = ℕ} (8 - length q) 0)
+length_padded q h =
+    omega (arith, length-append q (replicate (8 - length q) 0), length-replicate {A = ℕ} (8 - length q) 0)
 
 -- all n variables, and zeros, are an ordering
 pub ordering_of : (n : ℕ) (q : List ℕ) → n ≤ 8 → Entries n q → length q ≡ n → IsOrdering n (padded q)
 ordering_of n q few h long =
     let zeros : List ℕ = replicate (8 - length q) 0 in
-    let inside : (k : ℕ) → k < n → at (padded q) k ≡ get_or q k 0 = λ k l. get_or_append_left q zeros 0 k (omega arith) in
-    let range : (k : ℕ) → k < n → (1 ≤ get_or q k 0) × (get_or q k 0 ≤ n) = λ k l. All-get_or (λ x. (1 ≤ x) × (x ≤ n)) q k 0 (omega arith) h.range in
+    let inside : (k : ℕ) → k < n → at (padded q) k ≡ get_or q k 0 =
+    λ k l. get_or_append_left q zeros 0 k (omega arith) in
+    let range : (k : ℕ) → k < n → (1 ≤ get_or q k 0) × (get_or q k 0 ≤ n) =
+    λ k l. All-get_or (λ x. (1 ≤ x) × (x ≤ n)) q k 0 (omega arith) h.range in
     record {
       eight = length_padded q (omega arith);
       low = λ k l. omega (arith, inside k l, (range k l).0);
       high = λ k l. omega (arith, inside k l, (range k l).1);
-      distinct = λ j k l m e. apart_distinct q h.apart j k l (omega arith) (sym (inside j (omega arith)) ∙ e ∙ inside k m);
+      distinct =
+          λ j k l m e. apart_distinct q h.apart j k l (omega arith) (sym (inside j (omega arith)) ∙ e ∙ inside k m);
       zeros = λ k l. padded_past q k (omega arith);
     }
 
@@ -162,9 +175,13 @@ module _ (n : ℕ) (order : List ℕ) (o : IsOrdering n order) where
     most = omega (arith, long);
     entries = record {
       range = All-from_get_or (λ x. (1 ≤ x) × (x ≤ n)) (take n order) 0
-          (λ k l. let h : k < n = omega (arith, long) in (omega (arith, inner k h, o.low k h), omega (arith, inner k h, o.high k h)));
+          (λ k l. let h : k < n = omega (arith, long) in (
+            omega (arith, inner k h, o.low k h),
+            omega (arith, inner k h, o.high k h),
+          ));
       apart = apart_from (take n order)
-          (λ j k l h e. o.distinct j k l (omega (arith, long)) (sym (inner j (omega (arith, long))) ∙ e ∙ inner k (omega (arith, long))));
+          (λ j k l h e. o.distinct j k l (omega (arith, long))
+          (sym (inner j (omega (arith, long))) ∙ e ∙ inner k (omega (arith, long))));
     };
   }
 

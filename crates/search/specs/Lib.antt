@@ -4,3 +4,7 @@ pub mod Liveness
 pub mod Columns
 pub mod Theorems
 pub mod Divisors
+pub mod Memo
+pub mod Prefix
+pub mod Product
+pub mod Walk

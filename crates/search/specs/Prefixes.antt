@@ -1,16 +1,15 @@
 -- Prefixes of orderings, and their listing. Assumes nothing.
-use Rattle.std.specs.Prelude.{◌≡◌, ℕ, zero, suc, ◌-◌, ◌<◌, ◌≤◌, Bool, false, not, ◌||◌, ◌⊎◌, List, [], ◌∷◌, ◌++◌, length, replicate, filter, ◌==◌, slice_index_or}
-use Rattle.std.specs.List.{AllByRecursion}
+use Rattle.std.specs.Prelude.{◌≡◌, ℕ, zero, suc, ◌-◌, ◌<◌, ◌≤◌, Bool, false, not, ◌⊎◌, List, [], ◌∷◌, ◌++◌, length, replicate, filter, ⊤, All, AllPairs, Contains, ◌==◌, slice_index_or}
+use Rattle.std.specs.List.{AllByRecursion, list_any, flat_map}
 
 -- the k numbers after m, in order
 abbrev pub after : ℕ → ℕ → List ℕ
 after m zero = []
 after m (suc k) = suc m ∷ after (suc m) k
 
--- whether x is an entry of a list
+-- whether x is an entry
 abbrev pub has : ℕ → List ℕ → Bool
-has x [] = false
-has x (y ∷ ys) = y == x || has x ys
+has x q = list_any (λ y. y == x) q
 
 -- at index x a list tells whether x is an entry of q; past its end none is
 abbrev pub Marked : List ℕ → List Bool → Type 0
@@ -22,7 +21,7 @@ unused_above n q m = filter (λ x. not (has x q)) (after m (n - m))
 
 -- no number stands twice
 abbrev pub Apart : List ℕ → Type 0
-Apart [] = Unit {0}
+Apart [] = ⊤
 Apart (x ∷ xs) = (has x xs ≡ false) × Apart xs
 
 -- distinct numbers of 1 to n
@@ -39,28 +38,15 @@ pub record Prefix (n : ℕ) (p : List ℕ) : Type 0 where
 -- p stands before q: by the first entry in which they differ, and a prefix before its extensions
 abbrev pub Before : List ℕ → List ℕ → Type 0
 Before [] [] = ⊥
-Before [] (y ∷ ys) = Unit {0}
+Before [] (y ∷ ys) = ⊤
 Before (x ∷ xs) [] = ⊥
 Before (x ∷ xs) (y ∷ ys) = (x < y) ⊎ ((x ≡ y) × Before xs ys)
-
--- each stands in the relation to all that follow it
-abbrev pub Sorted : {X : Type 0} → (X → X → Type 0) → List X → Type 0
-Sorted R [] = Unit {0}
-Sorted R (x ∷ xs) = AllByRecursion (R x) xs × Sorted R xs
-
-abbrev pub Among : {X : Type 0} → X → List X → Type 0
-Among x [] = ⊥
-Among x (y ∷ ys) = (x ≡ y) ⊎ Among x ys
-
--- the lists that f makes of each number, joined
-abbrev pub each : (ℕ → List (List ℕ)) → List ℕ → List (List ℕ)
-each f [] = []
-each f (x ∷ xs) = f x ++ each f xs
 
 -- the prefixes that q begins, with 1 to d entries more, in the order of the listing
 abbrev pub extensions : ℕ → ℕ → List ℕ → List (List ℕ)
 extensions n zero q = []
-extensions n (suc d) q = each (λ x. (q ++ (x ∷ [])) ∷ extensions n d (q ++ (x ∷ []))) (unused_above n q 0)
+extensions n (suc d) q =
+    flat_map (λ x. (q ++ (x ∷ [])) ∷ extensions n d (q ++ (x ∷ []))) (unused_above n q 0)
 
 -- the listing of all prefixes
 unfoldable pub prefixes : ℕ → List (List ℕ)
@@ -68,9 +54,9 @@ prefixes n = extensions n n []
 
 -- a list has the prefixes of n, all of them and nothing else, in order
 pub record Lists (n : ℕ) (ps : List (List ℕ)) : Type 0 where
-  pub only : AllByRecursion (Prefix n) ps
-  pub all : (p : List ℕ) → Prefix n p → Among p ps
-  pub order : Sorted Before ps
+  pub only : All (Prefix n) ps
+  pub all : (p : List ℕ) → Prefix n p → Contains ps p
+  pub order : AllPairs Before ps
 
 abbrev pub ListingHasEveryPrefixInOrder : Type 0
 ListingHasEveryPrefixInOrder = (n : ℕ) → Lists n (prefixes n)
@@ -79,6 +65,7 @@ ListingHasEveryPrefixInOrder = (n : ℕ) → Lists n (prefixes n)
 abbrev pub padded : List ℕ → List ℕ
 padded q = q ++ replicate (8 - length q) 0
 
--- the ordering of n variables that a prefix begins: its entries, then the unused variables in increasing order
+-- the ordering of n variables that a prefix begins: its entries, then the unused variables in
+-- increasing order
 abbrev pub completed : ℕ → List ℕ → List ℕ
 completed n p = padded (p ++ unused_above n p 0)

@@ -1,25 +1,25 @@
 // Which rows can divide the products of a row with the powers of a variable.
-ghost use Rattle.std.specs.Prelude.{◌≡◌, ℕ, ◌<◌, ◌≤◌, true, map, length, Decides};
+ghost use Rattle.std.specs.Prelude.{◌≡◌, ◌<◌, ◌≤◌, map, length, IsTrue, ◌↔◌};
 ghost use Rattle.orderings.specs.Rows.{row as row_at};
-ghost use Rattle.places.specs.Places.{among};
-ghost use Rattle.search.specs.Divisors.{DividesBut, Known};
+ghost use Rattle.search.specs.Divisors.{DividesBut, HasDivisorsBut, Known};
 
 use elements::Element;
 use places::Places;
 
-// For each row and each of eight variables, one after another, the places of the rows that divide it but for that variable: found when they are first asked for,
-// since a search that is short asks for few of them, and kept.
+/// For each row and each of eight variables, one after another, the places of the rows that divide
+/// it but for that variable: found when they are first asked for, since a search that is short asks
+/// for few of them, and kept.
 #[derive(Drop)]
 pub(crate) struct Divisors<'a, E: Element> {
     pub(crate) rows: &'a [E],
     places: [Places; 512],
     ghost few: { length rows.now ≤ 64 },
-    ghost known: { Known (map E.Element.shown rows.now) places },
+    ghost known: { Known (map E.shown rows.now) places },
 }
 
 // Whether a row divides another, but for its exponent of one variable.
 fn divides_but<E: Element>(variable: u8, row: &E, other: &E) -> bool
-    ensures { Decides result (DividesBut variable (E.Element.shown row.now) (E.Element.shown other.now)) }
+    ensures { IsTrue result ↔ (DividesBut variable (E.shown row.now) (E.shown other.now)) }
 {
     row.family() == other.family()
         && (0..8).all(|i| i + 1 == variable || row.exponent(i + 1) <= other.exponent(i + 1))
@@ -28,7 +28,7 @@ fn divides_but<E: Element>(variable: u8, row: &E, other: &E) -> bool
 // The places of the rows that divide another but for one variable.
 fn divisors_but<E: Element>(variable: u8, rows: &[E], other: &E) -> Places
     requires { length rows.now ≤ 64 }
-    ensures { (s : ℕ) → s < length rows.now → Decides (among result.bits s) (DividesBut variable (row_at (map E.Element.shown rows.now) s) (E.Element.shown other.now)) }
+    ensures { HasDivisorsBut variable (map E.shown rows.now) (E.shown other.now) result }
 {
     let mut places = Places::none();
     for (place, row) in rows.iter().enumerate() {
@@ -40,7 +40,7 @@ fn divisors_but<E: Element>(variable: u8, rows: &[E], other: &E) -> Places
 }
 
 impl<'a, E: Element> Divisors<'a, E> {
-    // None is known yet.
+    /// None is known yet.
     pub(crate) fn new(rows: &'a [E]) -> Self
         requires { length rows.now ≤ 64 }
         ensures { result.rows.now ≡ rows.now }
@@ -51,11 +51,12 @@ impl<'a, E: Element> Divisors<'a, E> {
         }
     }
 
-    // The places of the rows that divide the row of a place but for one variable.
+    /// The places of the rows that divide the row of a place but for one variable.
     pub(crate) fn of(&mut self, place: usize, variable: u8) -> Places
         requires row { place < length self.old.rows.now }
         requires variable { (1 ≤ variable) × (variable ≤ 8) }
-        ensures places { (s : ℕ) → s < length self.old.rows.now → Decides (among result.bits s) (DividesBut variable (row_at (map E.Element.shown self.old.rows.now) s) (row_at (map E.Element.shown self.old.rows.now) place)) }
+        ensures places { let rows = map E.shown self.old.rows.now in
+            HasDivisorsBut variable rows (row_at rows place) result }
         ensures same { self.new.rows ≡ self.old.rows }
     {
         let cell = place * 8 + variable as usize - 1;

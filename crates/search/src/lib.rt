@@ -1,8 +1,11 @@
 // The search for an ordering that makes rows complete.
 #![tactic(auto)]
 
-pub mod columns;
+mod columns;
+mod cone_table;
 mod divisors;
-mod keeping;
-pub mod prefixes;
+mod memo;
+mod prefix;
 pub mod searching;
+mod table;
+mod walk;

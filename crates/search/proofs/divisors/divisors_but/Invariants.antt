@@ -4,4 +4,5 @@ use Rattle.search.proofs.divisors.divisors_but.Given as goal
 
 -- the places of the rows so far
 abbrev pub invariant-loop-place : goal.invariant-loop-place
-invariant-loop-place g l = Gathered l.variable (map g.E.Element.shown l.rows) (g.E.Element.shown l.other) l.place l.places.bits
+invariant-loop-place g l =
+    Gathered l.variable (map g.E.Element.shown l.rows) (g.E.Element.shown l.other) l.place l.places

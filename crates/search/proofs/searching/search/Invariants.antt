@@ -1,9 +1,15 @@
-use Rattle.std.proofs.Common.{◌≡◌, map, length, IfSome}
+use Rattle.std.proofs.Common.{◌≡◌, map}
 use Rattle.search.proofs.Stepping.{Walking, work}
 use Rattle.search.proofs.searching.search.Given as goal
 
-abbrev pub invariant-walk : goal.invariant-walk
-invariant-walk g l = Walking (g.D.Division.meaning l.division) l.n (map g.E.Element.shown l.rows) l.prefix l.from l.tested l.table.limits l.cones × IfSome l.kept (λ k. k.bars.rows.now ≡ l.rows) × (l.table.count ≡ length l.rows)
+-- the walk stands at the prefix, and is of the rows
+abbrev pub invariant-search : goal.invariant-search
+invariant-search g l =
+    record {
+      stands : Walking (g.D.Division.meaning l.division) l.n (map g.E.Element.shown l.rows) l.prefix l.from l.tested
+          l.walk.table.limits l.walk.cones;
+      rows : l.walk.rows.now ≡ l.rows;
+    }
 
-abbrev pub decreases-walk : goal.decreases-walk
-decreases-walk g l = work l.n l.prefix l.from
+abbrev pub decreases-search : goal.decreases-search
+decreases-search g l = work l.n l.prefix l.from

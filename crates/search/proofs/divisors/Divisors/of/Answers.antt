@@ -1,5 +1,5 @@
 use Rattle.std.proofs.Common.{map, arith}
-use Rattle.std.proofs.lemmas.List.{length-map, get_or-map}
+use Rattle.std.proofs.lemmas.List.{get_or-map}
 use Rattle.elements.specs.Element.{blank}
 use Rattle.search.proofs.Dividing.{known_more}
 use Rattle.search.proofs.divisors.Divisors.of.Goals as goal
@@ -10,5 +10,7 @@ invariant_of-self-clause-known g c =
     let rows = c.args.self.now.rows.now in
     let p = c.args.place in
     let here = get_or-map shown rows p c.index-self-place.result blank c.requires.row in
-    known_more (map shown rows) c.args.self.now.places c.args.self.now.known p c.args.variable c.divisors_but-found.result (omega (arith, c.args.self.now.few, c.requires.row, c.requires.variable.0, c.requires.variable.1)) c.requires.variable.0 c.requires.variable.1
-    (λ s l. rw here (c.divisors_but-found.ensures s (omega (arith, l, length-map rows shown))))
+    let (low, high) = c.requires.variable in
+    known_more (map shown rows) c.args.self.now.places c.args.self.now.known p c.args.variable
+    c.divisors_but-found.result
+    (omega (arith, c.args.self.now.few, c.requires.row, low, high)) low high (rw here c.divisors_but-found.ensures)

@@ -1,7 +1,7 @@
 use Rattle.std.proofs.Common.{take, arith}
 use Rattle.search.proofs.Held.{held, held_room, held_more, taken_more}
 use Rattle.search.proofs.Marking.{marked_more}
-use Rattle.search.proofs.prefixes.Prefix.push.Goals as goal
+use Rattle.search.proofs.prefix.Prefix.push.Goals as goal
 
 pub bounds-self-self : goal.bounds-self-self
 bounds-self-self c =

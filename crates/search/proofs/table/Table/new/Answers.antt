@@ -1,6 +1,6 @@
 use Rattle.std.proofs.Common.{sym, ◌∙◌}
 use Rattle.search.proofs.Writing.{no_limit, start_wide, start_limits}
-use Rattle.search.proofs.columns.Table.new.Goals as goal
+use Rattle.search.proofs.table.Table.new.Goals as goal
 
 pub invariant_of-result : goal.invariant_of-result
 invariant_of-result c = record {

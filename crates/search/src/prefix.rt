@@ -1,10 +1,11 @@
 // Prefixes of orderings.
-ghost use Rattle.std.specs.Prelude.{◌≡◌, ◌+◌, ◌-◌, ◌≤◌, false, [], ◌∷◌, slice_index, take, replicate, slice_set, Decides, MatchOption};
-ghost use Rattle.search.specs.Prefixes.{has, unused_above, Entries, Marked, padded, completed as completion};
+ghost use Rattle.std.specs.Prelude.{◌≡◌, ◌≤◌, take};
+ghost use Rattle.search.specs.Prefixes.{Entries, Marked, padded};
 
-// The first entries of an ordering of n variables: distinct ones of these, the greatest first, with zeros after them.
-// It is an array and a length, and no Vec, since the search has no heap and so cannot fail for want of memory. Its eight bytes, with the zeros,
-// are the order bytes of the ordering that it becomes, so that a list of fixed capacity would be no plainer.
+/// The first entries of an ordering of n variables: distinct ones of these, the greatest first,
+/// with zeros after them. It is an array and a length, and no Vec, since the search has no heap and
+/// so cannot fail for want of memory. Its eight bytes, with the zeros, are the order bytes of the
+/// ordering that it becomes, so that a list of fixed capacity would be no plainer.
 #[derive(Clone, Copy)]
 pub(crate) struct Prefix {
     entries: [u8; 8],
@@ -20,7 +21,11 @@ pub(crate) struct Prefix {
 }
 
 impl Prefix {
-    // No entries yet.
+    ghost use Rattle.std.specs.Prelude.{◌≡◌, ◌+◌, ◌≤◌, false, replicate, slice_set, MatchOption, IsTrue, ◌↔◌};
+    ghost use Rattle.search.specs.Prefixes.{has, completed as completion};
+    ghost use Rattle.search.specs.Prefix.{entries_of, last_of, NoneUnusedAbove, IsNextUnused, LosesLast};
+
+    /// No entries yet.
     pub(crate) fn new(n: u8) -> Self
         requires { n ≤ 8 }
         ensures entries { result.entries ≡ replicate 8 0 }
@@ -37,46 +42,46 @@ impl Prefix {
 
     // Whether x is one of the entries.
     fn has(&self, x: u8) -> bool
-        ensures { result ≡ has x (take self.now.len self.now.entries) }
+        ensures { result ≡ has x (entries_of self.now) }
     {
         self.used.get(usize::from(x)).is_some_and(|used| *used)
     }
 
-    // How many entries there are.
+    /// How many entries there are.
     pub(crate) fn count(&self) -> usize
         ensures { result ≡ self.now.len }
     {
         self.len
     }
 
-    // Whether all variables are entries.
+    /// Whether all variables are entries.
     pub(crate) fn is_full(&self) -> bool
-        ensures { Decides result (self.now.len ≡ self.now.n) }
+        ensures { IsTrue result ↔ (self.now.len ≡ self.now.n) }
     {
         self.len == self.n as usize
     }
 
-    // The smallest variable above `from` that is not an entry.
+    /// The smallest variable above `from` that is not an entry.
     pub(crate) fn next_unused(&self, from: u8) -> Option<u8>
-        ensures { MatchOption result (unused_above self.now.n (take self.now.len self.now.entries) from ≡ []) (λ x. unused_above self.now.n (take self.now.len self.now.entries) from ≡ x ∷ unused_above self.now.n (take self.now.len self.now.entries) x) }
+        ensures { MatchOption result (NoneUnusedAbove self.now from) (IsNextUnused self.now from) }
     {
         (from..self.n)
             .map(|below| below + 1)
             .find(|x| !self.has(*x))
     }
 
-    // The last entry.
+    /// The last entry.
     pub(crate) fn last(&self) -> u8
         requires { 1 ≤ self.now.len }
-        ensures { slice_index self.now.entries (self.now.len - 1) ≡ result }
+        ensures { result ≡ last_of self.now }
     {
         self.entries[self.len - 1]
     }
 
-    // One entry more.
+    /// One entry more.
     pub(crate) fn push(&mut self, x: u8)
         requires variable { (1 ≤ x) × (x ≤ self.old.n) }
-        requires unused { has x (take self.old.len self.old.entries) ≡ false }
+        requires unused { has x (entries_of self.old) ≡ false }
         ensures entries { self.new.entries ≡ slice_set self.old.entries self.old.len x }
         ensures len { self.new.len ≡ self.old.len + 1 }
         ensures same { self.new.n ≡ self.old.n }
@@ -86,9 +91,9 @@ impl Prefix {
         self.used[usize::from(x)] = true;
     }
 
-    // Takes the last entry off.
+    /// Takes the last entry off.
     pub(crate) fn pop(&mut self) -> Option<u8>
-        ensures last { MatchOption result (self.old.len ≡ 0) (λ x. (self.old.len ≡ self.new.len + 1) × (slice_index self.old.entries self.new.len ≡ x) × (self.new.entries ≡ slice_set self.old.entries self.new.len 0)) }
+        ensures last { MatchOption result (self.old.len ≡ 0) (LosesLast self.old self.new) }
         ensures same { self.new.n ≡ self.old.n }
     {
         let at = self.len.checked_sub(1)?;
@@ -99,9 +104,9 @@ impl Prefix {
         Some(last)
     }
 
-    // The ordering that the prefix begins, with the unused variables after it in increasing order.
+    /// The ordering that the prefix begins, with the unused variables after it in increasing order.
     pub(crate) fn completed(&self) -> [u8; 8]
-        ensures { result ≡ completion self.now.n (take self.now.len self.now.entries) }
+        ensures { result ≡ completion self.now.n (entries_of self.now) }
     {
         let mut order = self.entries;
         let mut count = self.len;

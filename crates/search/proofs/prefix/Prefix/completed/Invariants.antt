@@ -1,6 +1,6 @@
 use Rattle.std.proofs.Common.{◌-◌, take}
 use Rattle.search.proofs.Filling.{Filled}
-use Rattle.search.proofs.prefixes.Prefix.completed.Given as goal
+use Rattle.search.proofs.prefix.Prefix.completed.Given as goal
 
 -- the unused variables so far follow the prefix
 abbrev pub invariant-loop-x : goal.invariant-loop-x

@@ -2,7 +2,7 @@ use Rattle.std.proofs.Common.{◌≡◌, suc, get_or, take, set, arith}
 use lib.Seq.{take-set-le}
 use Rattle.search.proofs.Held.{held, held_less, held_last, last_range, last_unused}
 use Rattle.search.proofs.Marking.{marked_less}
-use Rattle.search.proofs.prefixes.Prefix.pop.Goals as goal
+use Rattle.search.proofs.prefix.Prefix.pop.Goals as goal
 
 pub bounds-self-from : goal.bounds-self-from
 bounds-self-from c =
@@ -23,5 +23,6 @@ invariant_of-self c =
       proper = ∣ less.proper ∣₁;
       zeros = less.zeros;
       marked = rw (kept, c.from.ensures)
-          (marked_less (take at p.entries) last p.used (omega (arith, (last_range (held p) at z).1, p.few)) (last_unused (held p) at z) (rw (held_last (held p) at z) at p.marked));
+          (marked_less (take at p.entries) last p.used (omega (arith, (last_range (held p) at z).1, p.few))
+          (last_unused (held p) at z) (rw (held_last (held p) at z) at p.marked));
     }
