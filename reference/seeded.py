@@ -13,7 +13,7 @@ import os
 import selfcheck
 import sheetlog
 
-SEED, COUNT = "definitions", 12
+SEED, COUNT, WIDTH = "definitions", 12, 100
 JANET, LIKE = sheetlog.JANET, sheetlog.JANET_LIKE
 CRATE = os.path.join(os.path.dirname(os.path.abspath(__file__)), "..", "crates", "worked")
 
@@ -22,8 +22,13 @@ def listed(items):
     return " ∷ ".join(list(items) + ["[]"])
 
 
+def breakable(items):
+    """A list with a tab wherever a line may be broken."""
+    return " ∷\t".join(items) + " ∷ []"
+
+
 def table(rows):
-    return listed("(" + listed(row) + ")" for row in rows)
+    return breakable("(" + listed(row) + ")" for row in rows)
 
 
 def option(value):
@@ -32,6 +37,18 @@ def option(value):
 
 def finite(limit):
     return None if limit == sheetlog.NO_LIMIT else limit
+
+
+def laid_out(start, parts, indent):
+    """The first part after the start, each other on a line of its own, and a line that is too long broken."""
+    lines = [start]
+    for number, part in enumerate(parts):
+        for place, piece in enumerate(part.split("\t")):
+            if number + place > 0 and (place == 0 or len(lines[-1]) + 1 + len(piece) > WIDTH):
+                lines.append(indent + piece)
+            else:
+                lines[-1] += " " + piece
+    return "\n".join(lines)
 
 
 class Sheet:
@@ -46,7 +63,7 @@ class Sheet:
         self.reference = sheetlog.Rows(rows, n)
 
     def elements(self):
-        return listed("element " + " ".join(map(str, (f,) + e[:3])) for f, e in self.rows)
+        return breakable("element " + " ".join(map(str, (f,) + e[:3])) for f, e in self.rows)
 
     def eight(self):
         return listed(map(str, self.ordering + (0,) * (8 - self.n)))
@@ -67,11 +84,11 @@ class Sheet:
     def settles(self, division, name):
         answer, count = self.reference.search(division)
         answer = "None" if answer is None else f"(Some ({listed(map(str, answer))}))"
-        return f"Settles {name} {self.n} sheet_{self.number} {answer} {count}"
+        return [f"SearchAnswers {name} {self.n} sheet_{self.number} {answer} {count}"]
 
     def evaluates(self):
-        return (f"Evaluates {self.n} sheet_{self.number} ({self.eight()}) ({self.bars()}) ({self.gaps()}) "
-                f"{self.complete(JANET)} {self.complete(LIKE)}")
+        return [f"Evaluates {self.n} sheet_{self.number} ({self.eight()})", f"({self.bars()})", f"({self.gaps()})",
+                f"{self.complete(JANET)} {self.complete(LIKE)}"]
 
 
 def sheets():
@@ -84,7 +101,8 @@ def sheets():
     return [Sheet(number, *made) for number, made in enumerate(kept[True] + kept[False], 1)]
 
 
-SPECS = """-- Small sheets made by seed, with what the second implementation says of them. Written by reference/seeded.py. Assumes nothing.
+SPECS = """-- Small sheets made by seed, with what the second implementation says of them. Written by
+-- reference/seeded.py. Assumes nothing.
 use Rattle.std.specs.Prelude.{◌≡◌, ℕ, Bool, true, false, List, [], ◌∷◌, map, length, take, Some, None, Option}
 use Rattle.std.specs.List.{range_with_len}
 use Rattle.elements.specs.Element.{Shown}
@@ -93,26 +111,30 @@ use Rattle.barcode.specs.Bars.{bar_number}
 use Rattle.barcode.specs.Gap.{gap}
 use Rattle.divisions.specs.Janet.{janet, janet_like}
 use Rattle.search.specs.Liveness.{live}
-use Rattle.worked.specs.Sets.{element, Settles}
+use Rattle.worked.specs.Sets.{element, SearchAnswers}
 
 -- a list for each place, with an entry for each variable
 abbrev pub table : {A : Type 0} → ℕ → List Shown → (ℕ → ℕ → A) → List (List A)
 table n rows f = map (λ p. map (f p) (range_with_len 1 n)) (range_with_len 0 (length rows))
 
--- the numbers of bars and the gaps under an ordering, and whether it makes the rows complete by Janet and by Janet-like division
-pub record Evaluates (n : ℕ) (rows : List Shown) (order : List ℕ) (bars : List (List ℕ)) (gaps : List (List (Option ℕ))) (by_janet by_janet_like : Bool) : Type 0 where
+-- the numbers of bars and the gaps under an ordering, and whether it makes the rows complete by
+-- Janet and by Janet-like division
+pub record Evaluates (n : ℕ) (rows : List Shown) (order : List ℕ)
+    (bars : List (List ℕ)) (gaps : List (List (Option ℕ)))
+    (by_janet by_janet_like : Bool) : Type 0 where
   pub bars_are : table n rows (λ p v. bar_number rows order (row rows p) v) ≡ bars
   pub gaps_are : table n rows (gap rows order) ≡ gaps
   pub janet_says : live janet n rows (take n order) ≡ by_janet
   pub janet_like_says : live janet_like n rows (take n order) ≡ by_janet_like
 """
 
-PROOFS = """-- What the second implementation says of the seeded sheets, by computing the definitions. Written by reference/seeded.py. Assumes nothing.
+PROOFS = """-- What the second implementation says of the seeded sheets, by computing the definitions. Written by
+-- reference/seeded.py. Assumes nothing.
 use Rattle.std.proofs.Common.{true, false, [], ◌∷◌, Some, None, refl}
 use Rattle.divisions.specs.Janet.{janet, janet_like}
 use Rattle.search.specs.Prefixes.{prefixes}
 use Rattle.search.specs.Walks.{first_live, tested_to}
-use Rattle.worked.specs.Sets.{Settles}
+use Rattle.worked.specs.Sets.{SearchAnswers}
 use Rattle.worked.specs.Seeded.{SHEETS, Evaluates, TheSeededSheetsAreAsTheReferenceSays}
 use Rattle.worked.proofs.Fitting.{rows_from}
 use Rattle.worked.proofs.Results.{of_plain, of_derivatives}
@@ -123,21 +145,23 @@ def main():
     all_sheets = sheets()
     specs = [SPECS]
     for sheet in all_sheets:
-        specs.append(f"abbrev pub sheet_{sheet.number} : List Shown\nsheet_{sheet.number} = {sheet.elements()}\n")
+        name = f"sheet_{sheet.number}"
+        specs.append(f"abbrev pub {name} : List Shown\n" + laid_out(f"{name} =", [sheet.elements()], " " * 4) + "\n")
     fields, parts = [], []
     proofs = [PROOFS.replace("SHEETS", ", ".join(f"sheet_{sheet.number}" for sheet in all_sheets))]
     for sheet in all_sheets:
         for name, says in ((f"told_{sheet.number}", sheet.evaluates()),
                            (f"janet_{sheet.number}", sheet.settles(JANET, "janet")),
                            (f"janet_like_{sheet.number}", sheet.settles(LIKE, "janet_like"))):
-            fields.append(f"  pub {name} : {says}")
+            fields.append(laid_out(f"  pub {name} :", says, " " * 6))
             parts.append(f"  {name} = {name};")
-            if says.startswith("Evaluates"):
+            if len(says) > 1:
                 body = "record { bars_are = refl; gaps_are = refl; janet_says = refl; janet_like_says = refl }"
             else:
                 body = f"record {{ sheet = rows_from {sheet.families} {sheet.n} sheet_{sheet.number} refl; answers = refl; counts = refl }}"
-            proofs.append(f"{name} : {says}\nunfolding first_live tested_to prefixes\n{name} = {body}\n")
-    specs.append("pub record TheSeededSheetsAreAsTheReferenceSays : Type 0 where\n" + "\n".join(fields) + "\n")
+            statement = laid_out(f"{name} :", says, " " * 4)
+            proofs.append(f"{statement}\nunfolding first_live tested_to prefixes\n{name} = {body}\n")
+    specs.append("-- on each of the sheets the definitions give what the reference says\npub record TheSeededSheetsAreAsTheReferenceSays : Type 0 where\n" + "\n".join(fields) + "\n")
     proofs.append("pub seeded : TheSeededSheetsAreAsTheReferenceSays\nseeded = record {\n" + "\n".join(parts) + "\n}\n")
     for folder, texts in (("specs", specs), ("proofs", proofs)):
         with open(os.path.join(CRATE, folder, "Seeded.antt"), "w", encoding="utf-8") as file:

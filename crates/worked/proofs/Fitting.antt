@@ -5,12 +5,15 @@ use Rattle.std.proofs.lemmas.Bool.{and_parts, and_from, eqb-true, eq-eqb, leb-tr
 use Rattle.elements.specs.Element.{Shown, exponent}
 use Rattle.orderings.specs.Fit.{Fit}
 use Rattle.orderings.specs.Rows.{row}
-use Rattle.search.specs.Liveness.{RowsOfSheet, every}
+use Rattle.std.specs.List.{list_all as every}
+use Rattle.search.specs.Liveness.{RowsOfSheet}
 
 -- e fits a sheet of n variables of the kind
 abbrev fits : (ℕ → Bool) → ℕ → Shown → Bool
 fits kind n e =
-    (kind e.family && leb e.family 255) && (eqb (length e.exponents) 8 && (every (λ x. leb x 4095) e.exponents && every (λ x. eqb x 0) (drop n e.exponents)))
+    (kind e.family && leb e.family 255) &&
+    (eqb (length e.exponents) 8 &&
+    (every (λ x. leb x 4095) e.exponents && every (λ x. eqb x 0) (drop n e.exponents)))
 
 abbrev same_list : List ℕ → List ℕ → Bool
 same_list [] [] = true
@@ -50,15 +53,19 @@ same_list_self (x ∷ xs) = and_from (eqb x x) (same_list xs xs) (eq-eqb x x ref
 same_self : (u : Shown) → same u u ≡ true
 same_self u = and_from (eqb u.family u.family) _ (eq-eqb u.family u.family refl) (same_list_self u.exponents)
 
-different_from : (rows : List Shown) → differ rows ≡ true → (p q : ℕ) → p < q → q < length rows → row rows p ≡ row rows q → ⊥
+different_from : (rows : List Shown) → differ rows ≡ true →
+    (p q : ℕ) → p < q → q < length rows → row rows p ≡ row rows q → ⊥
 different_from [] e p q l h is = absurd (not-suc-le-zero h)
 different_from (u ∷ us) e zero zero l h is = absurd (omega arith)
 different_from (u ∷ us) e zero (suc q) l h is =
-    let t = shown_at (λ w. not (same u w)) us q (and_parts (each_shown (λ w. not (same u w)) us) (differ us) e).0 (omega arith) in
-    both_ways (same u (row us q)) (not-true (same u (row us q)) t) (subst (λ (w : Shown). same u w ≡ true) is (same_self u))
+    let first = (and_parts (each_shown (λ w. not (same u w)) us) (differ us) e).0 in
+    let t = shown_at (λ w. not (same u w)) us q first (omega arith) in
+    both_ways (same u (row us q)) (not-true (same u (row us q)) t)
+    (subst (λ (w : Shown). same u w ≡ true) is (same_self u))
 different_from (u ∷ us) e (suc p) zero l h is = absurd (omega arith)
 different_from (u ∷ us) e (suc p) (suc q) l h is =
-    different_from us (and_parts (each_shown (λ w. not (same u w)) us) (differ us) e).1 p q (omega arith) (omega arith) is
+    let rest = (and_parts (each_shown (λ w. not (same u w)) us) (differ us) e).1 in
+    different_from us rest p q (omega arith) (omega arith) is
 
 small_from : (e : Shown) → every (λ x. leb x 4095) e.exponents ≡ true → (v : ℕ) → exponent e v ≤ 4095
 small_from e t zero = omega arith
@@ -67,12 +74,13 @@ small_from e t (suc k) = elim (cases_lt k (length e.exponents)) [
   | inr l ↦ omega (arith, get_or_past e.exponents k 0 l)
 ]
 
-unused_from : (n : ℕ) (e : Shown) → every (λ x. eqb x 0) (drop n e.exponents) ≡ true → (v : ℕ) → n < v → exponent e v ≡ 0
+unused_from : (n : ℕ) (e : Shown) → every (λ x. eqb x 0) (drop n e.exponents) ≡ true →
+    (v : ℕ) → n < v → exponent e v ≡ 0
 unused_from n e t zero l = absurd (omega arith)
 unused_from n e t (suc k) l =
     let rest = drop n e.exponents in
     let place : n + (k - n) ≡ k = omega arith in
-    let there : get_or rest (k - n) 0 ≡ get_or e.exponents k 0 = get_or-drop n e.exponents (k - n) 0 ∙ ap (λ (i : ℕ). get_or e.exponents i 0) place in
+    let there = get_or-drop n e.exponents (k - n) 0 ∙ ap (λ (i : ℕ). get_or e.exponents i 0) place in
     sym there ∙ (elim (cases_lt (k - n) (length rest)) [
       | inl h ↦ eqb-true (get_or rest (k - n) 0) 0 (every_at (λ x. eqb x 0) rest (k - n) t h)
       | inr h ↦ get_or_past rest (k - n) 0 h
@@ -83,7 +91,7 @@ fit_from kind n e t =
     let (a, b) = and_parts (kind e.family && leb e.family 255) _ t in
     let (family, byte) = and_parts (kind e.family) (leb e.family 255) a in
     let (eight, c) = and_parts (eqb (length e.exponents) 8) _ b in
-    let (small, unused) = and_parts (every (λ x. leb x 4095) e.exponents) (every (λ x. eqb x 0) (drop n e.exponents)) c in
+    let (small, unused) = and_parts (every (λ x. leb x 4095) e.exponents) _ c in
     record {
       admitted = record {
         family = family;
@@ -105,5 +113,8 @@ rows_from kind n rows t =
       kind = kind;
       variables = record { some = leb-true 1 n low; most = leb-true n 8 high };
       few = leb-true (length rows) 64 few;
-      fit = record { fit = λ p l. fit_from kind n (row rows p) (shown_at (fits kind n) rows p fit l); different = different_from rows differs };
+      fit = record {
+        fit = λ p l. fit_from kind n (row rows p) (shown_at (fits kind n) rows p fit l);
+        different = different_from rows differs;
+      };
     }

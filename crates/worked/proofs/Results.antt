@@ -1,21 +1,19 @@
 -- The nine results, by computing the definitions. Assumes nothing.
 use Rattle.std.proofs.Common.{◌≡◌, ℕ, zero, suc, ◌<◌, ◌≤◌, Bool, ◌&&◌, eqb, leb, List, [], ◌∷◌, length, Some, None, Option, refl, ap, ◌∙◌, subst, arith}
+use Rattle.std.proofs.lemmas.Option.{none-some}
 use Rattle.std.specs.Option.{option_map}
 use Rattle.elements.specs.Element.{Shown, entry, product, power, quotient, times}
 use Rattle.orderings.specs.Rows.{row}
 use Rattle.divisions.specs.Janet.{janet, janet_like}
-use Rattle.divisions.specs.Kept.{janet_like_lawful}
-use Rattle.cones.specs.Cones.{InCone, Complete, Shortfall, FirstShortfall}
+use Rattle.divisions.specs.Lawfulness.{janet_like_lawful}
+use Rattle.cones.specs.Cones.{InCone, Complete, IsShortfall, IsFirstShortfall}
 use Rattle.search.specs.Prefixes.{prefixes, Prefix, padded}
 use Rattle.search.specs.Walks.{first_live, tested_to}
 use Rattle.search.specs.Liveness.{RowsOfSheet, prefix_limits, Dead, answer, tested}
 use Rattle.search.proofs.Deadness.{live_is_told_by_its_test, full_prefix_is_live_exactly_when_complete}
 use Rattle.search.proofs.Testing.{decides_divides}
-use Rattle.worked.specs.Sets.{plain, set_a, set_b, set_d, set_e, derivatives_e, falling, Settles, TheNineWorkedResults}
+use Rattle.worked.specs.Sets.{plain, set_a, set_b, set_d, set_e, derivatives_e, falling, SearchAnswers, TheNineWorkedResults}
 use Rattle.worked.proofs.Fitting.{rows_from}
-
-never : (l : ℕ) → ◌≡◌ {A = Option ℕ} None (Some l) → ⊥
-never l e = let z : ◌≡◌ {A = ℕ} 0 1 = cc in omega arith
 
 one_is : (l : ℕ) → ◌≡◌ {A = Option ℕ} (Some 1) (Some l) → 1 ≡ l
 one_is l e = cc
@@ -42,27 +40,27 @@ sheet_e = rows_from of_plain 2 set_e refl
 sheet_derivatives : RowsOfSheet 2 derivatives_e
 sheet_derivatives = rows_from of_derivatives 2 derivatives_e refl
 
-settles_a : Settles janet 3 set_a (Some (1 ∷ 2 ∷ 3 ∷ [])) 3
+settles_a : SearchAnswers janet 3 set_a (Some (1 ∷ 2 ∷ 3 ∷ [])) 3
 unfolding first_live tested_to prefixes
 settles_a = record { sheet = sheet_a; answers = refl; counts = refl }
 
-settles_b : Settles janet 2 set_b (Some (2 ∷ 1 ∷ [])) 3
+settles_b : SearchAnswers janet 2 set_b (Some (2 ∷ 1 ∷ [])) 3
 unfolding first_live tested_to prefixes
 settles_b = record { sheet = sheet_b; answers = refl; counts = refl }
 
-like_settles_b : Settles janet_like 2 set_b (Some (1 ∷ 2 ∷ [])) 2
+like_settles_b : SearchAnswers janet_like 2 set_b (Some (1 ∷ 2 ∷ [])) 2
 unfolding first_live tested_to prefixes
 like_settles_b = record { sheet = sheet_b; answers = refl; counts = refl }
 
-never_settles_e : Settles janet 2 set_e None 2
+never_settles_e : SearchAnswers janet 2 set_e None 2
 unfolding first_live tested_to prefixes
 never_settles_e = record { sheet = sheet_e; answers = refl; counts = refl }
 
-like_settles_e : Settles janet_like 2 set_e (Some (1 ∷ 2 ∷ [])) 2
+like_settles_e : SearchAnswers janet_like 2 set_e (Some (1 ∷ 2 ∷ [])) 2
 unfolding first_live tested_to prefixes
 like_settles_e = record { sheet = sheet_e; answers = refl; counts = refl }
 
-settles_derivatives : Settles janet 2 derivatives_e (Some (1 ∷ 2 ∷ [])) 2
+settles_derivatives : SearchAnswers janet 2 derivatives_e (Some (1 ∷ 2 ∷ [])) 2
 unfolding first_live tested_to prefixes
 settles_derivatives = record { sheet = sheet_derivatives; answers = refl; counts = refl }
 
@@ -91,11 +89,12 @@ prefix_321 = record {
 -- all of 3,2,1 is live by Janet-like
 complete_d : Complete 3 set_d (janet_like set_d falling)
 complete_d =
-    (full_prefix_is_live_exactly_when_complete janet_like janet_like_lawful 3 set_d sheet_d (3 ∷ 2 ∷ 1 ∷ []) prefix_321 refl).0
-    ((live_is_told_by_its_test janet_like 3 set_d sheet_d (3 ∷ 2 ∷ 1 ∷ []) prefix_321).0 refl)
+    let full = 3 ∷ 2 ∷ 1 ∷ [] in
+    (full_prefix_is_live_exactly_when_complete janet_like janet_like_lawful 3 set_d sheet_d full prefix_321 refl).0
+    ((live_is_told_by_its_test janet_like 3 set_d sheet_d full prefix_321).0 refl)
 
 -- x1⁵x3 lies in no cone, since x1⁵ has limit 1 in variable 3 and no other row divides it; x1⁵x2 lies in that of x1²x2
-short_d : FirstShortfall 3 set_d (janet set_d falling) 0 3 1
+short_d : IsFirstShortfall 3 set_d (janet set_d falling) 0 3 1
 unfolding product power quotient
 short_d = record {
   shortfall = record { place = omega arith; low = omega arith; high = omega arith; limit = refl; outside = none };
@@ -112,20 +111,27 @@ short_d = record {
     none (suc (suc (suc (suc (suc zero))))) cone = let h : 5 ≤ 1 = cone.divides.smaller 3 in omega arith
     none (suc (suc (suc (suc (suc (suc s)))))) cone = omega (arith, cone.place)
 
-    within : (v l : ℕ) → 1 ≤ v → v ≤ 3 → janet set_d falling 1 v ≡ Some l → entry (quotient (row set_d 1) (times (row set_d 0) 2 1)) v < l
+    within : (v l : ℕ) → 1 ≤ v → v ≤ 3 → janet set_d falling 1 v ≡ Some l →
+        entry (quotient (row set_d 1) (times (row set_d 0) 2 1)) v < l
     within zero l low high e = absurd (omega arith)
-    within (suc zero) l low high e = absurd (never l e)
+    within (suc zero) l low high e = absurd (none-some l e)
     within (suc (suc zero)) l low high e = let is : 1 ≡ l = one_is l e in omega arith
     within (suc (suc (suc zero))) l low high e = let is : 1 ≡ l = one_is l e in omega arith
     within (suc (suc (suc (suc v)))) l low high e = absurd (omega arith)
 
     cone : InCone 3 set_d (janet set_d falling) 1 (times (row set_d 0) 2 1)
-    cone = record { place = omega arith; divides = (decides_divides (row set_d 1) (row set_d 0) 2 1 refl).0 refl; multiplier = within }
+    cone = record {
+      place = omega arith;
+      divides = (decides_divides (row set_d 1) (row set_d 0) 2 1 refl).0 refl;
+      multiplier = within;
+    }
 
-    before : (x l : ℕ) → x < 3 → Shortfall 3 set_d (janet set_d falling) 0 x l → ⊥
+    before : (x l : ℕ) → x < 3 → IsShortfall 3 set_d (janet set_d falling) 0 x l → ⊥
     before zero l h short = omega (arith, short.low)
-    before (suc zero) l h short = never l short.limit
-    before (suc (suc zero)) l h short = let is : 1 ≡ l = one_is l short.limit in short.outside 1 (subst (λ (k : ℕ). InCone 3 set_d (janet set_d falling) 1 (times (row set_d 0) 2 k)) is cone)
+    before (suc zero) l h short = none-some l short.limit
+    before (suc (suc zero)) l h short =
+        let Holding : ℕ → Type 0 = λ k. InCone 3 set_d (janet set_d falling) 1 (times (row set_d 0) 2 k) in
+        short.outside 1 (subst Holding (one_is l short.limit) cone)
     before (suc (suc (suc x))) l h short = omega arith
 
 pub nine : TheNineWorkedResults
@@ -146,10 +152,12 @@ module _ (u v w : Shown) (a : u ≡ plain 3 0 0) (b : v ≡ plain 1 1 0) (c : w 
   is_b : u ∷ v ∷ w ∷ [] ≡ set_b
   is_b = cc
 
-  pub ordering_b : (o : Option (List ℕ)) → (RowsOfSheet 2 (u ∷ v ∷ w ∷ []) → o ≡ option_map padded (answer janet 2 (u ∷ v ∷ w ∷ []))) →
+  pub ordering_b : (o : Option (List ℕ)) →
+      (RowsOfSheet 2 (u ∷ v ∷ w ∷ []) → o ≡ option_map padded (answer janet 2 (u ∷ v ∷ w ∷ []))) →
       o ≡ Some (2 ∷ 1 ∷ 0 ∷ 0 ∷ 0 ∷ 0 ∷ 0 ∷ 0 ∷ [])
   ordering_b o h =
-      subst (λ rows. RowsOfSheet 2 rows → o ≡ option_map padded (answer janet 2 rows)) is_b h sheet_b ∙ ap (option_map padded) settles_b.answers
+      subst (λ rows. RowsOfSheet 2 rows → o ≡ option_map padded (answer janet 2 rows)) is_b h sheet_b ∙
+      ap (option_map padded) settles_b.answers
 
   pub tested_b : (t : ℕ) → (RowsOfSheet 2 (u ∷ v ∷ w ∷ []) → t ≡ length (tested janet 2 (u ∷ v ∷ w ∷ []))) → t ≡ 3
   tested_b t h = subst (λ rows. RowsOfSheet 2 rows → t ≡ length (tested janet 2 rows)) is_b h sheet_b ∙ settles_b.counts

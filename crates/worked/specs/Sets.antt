@@ -3,13 +3,14 @@ use Rattle.std.specs.Prelude.{◌≡◌, ℕ, List, [], ◌∷◌, length, Some,
 use Rattle.elements.specs.Element.{Shown}
 use Rattle.divisions.specs.Laws.{Meaning}
 use Rattle.divisions.specs.Janet.{janet, janet_like}
-use Rattle.cones.specs.Cones.{Complete, FirstShortfall}
+use Rattle.cones.specs.Cones.{Complete, IsFirstShortfall}
 use Rattle.search.specs.Liveness.{RowsOfSheet, Dead, answer, tested}
 
 -- an element of a family by its exponents of variables 1, 2 and 3
 abbrev pub element : ℕ → ℕ → ℕ → ℕ → Shown
 element family a b c = record { family = family; exponents = a ∷ b ∷ c ∷ 0 ∷ 0 ∷ 0 ∷ 0 ∷ 0 ∷ [] }
 
+-- a plain term by these exponents
 abbrev pub plain : ℕ → ℕ → ℕ → Shown
 plain a b c = element 0 a b c
 
@@ -38,18 +39,20 @@ abbrev pub falling : List ℕ
 falling = 3 ∷ 2 ∷ 1 ∷ 0 ∷ 0 ∷ 0 ∷ 0 ∷ 0 ∷ []
 
 -- for these rows of a sheet the search answers p, and tests c prefixes
-pub record Settles (m : Meaning) (n : ℕ) (rows : List Shown) (p : Option (List ℕ)) (c : ℕ) : Type 0 where
+pub record SearchAnswers (m : Meaning) (n : ℕ) (rows : List Shown)
+    (p : Option (List ℕ)) (c : ℕ) : Type 0 where
   pub sheet : RowsOfSheet n rows
   pub answers : answer m n rows ≡ p
   pub counts : length (tested m n rows) ≡ c
 
+-- what is shown of the worked sets by Janet and by Janet-like division
 pub record TheNineWorkedResults : Type 0 where
-  pub janet_settles_a : Settles janet 3 set_a (Some (1 ∷ 2 ∷ 3 ∷ [])) 3
+  pub janet_settles_a : SearchAnswers janet 3 set_a (Some (1 ∷ 2 ∷ 3 ∷ [])) 3
   pub prefix_3_of_a_is_dead : Dead janet 3 set_a (3 ∷ [])
-  pub janet_settles_b : Settles janet 2 set_b (Some (2 ∷ 1 ∷ [])) 3
-  pub janet_like_settles_b : Settles janet_like 2 set_b (Some (1 ∷ 2 ∷ [])) 2
-  pub janet_never_settles_e : Settles janet 2 set_e None 2
-  pub janet_like_settles_e : Settles janet_like 2 set_e (Some (1 ∷ 2 ∷ [])) 2
-  pub janet_settles_derivatives_e : Settles janet 2 derivatives_e (Some (1 ∷ 2 ∷ [])) 2
+  pub janet_settles_b : SearchAnswers janet 2 set_b (Some (2 ∷ 1 ∷ [])) 3
+  pub janet_like_settles_b : SearchAnswers janet_like 2 set_b (Some (1 ∷ 2 ∷ [])) 2
+  pub janet_never_settles_e : SearchAnswers janet 2 set_e None 2
+  pub janet_like_settles_e : SearchAnswers janet_like 2 set_e (Some (1 ∷ 2 ∷ [])) 2
+  pub janet_settles_derivatives_e : SearchAnswers janet 2 derivatives_e (Some (1 ∷ 2 ∷ [])) 2
   pub janet_like_completes_d : Complete 3 set_d (janet_like set_d falling)
-  pub janet_falls_short_on_d : FirstShortfall 3 set_d (janet set_d falling) 0 3 1
+  pub janet_falls_short_on_d : IsFirstShortfall 3 set_d (janet set_d falling) 0 3 1

@@ -1,5 +1,5 @@
-// The worked sets: nine results shown together, twelve small sheets on which the definitions and the second implementation agree,
-// and one of the results run.
+// The worked sets: nine results shown together, twelve small sheets on which the definitions and
+// the second implementation agree, and one of the results run.
 #![tactic(auto)]
 
 ghost use Rattle.std.specs.Prelude.{◌≡◌, [], ◌∷◌, Some};
@@ -7,10 +7,11 @@ ghost use Rattle.worked.specs.Sets.{TheNineWorkedResults};
 ghost use Rattle.worked.specs.Seeded.{TheSeededSheetsAreAsTheReferenceSays};
 
 use divisions::Janet;
-use elements::{Element, PlainTerm};
+use elements::{Kind, PlainTerm};
 use search::searching::{Found, search};
 
-// The search on x1³, x1x2, x2² by Janet: prefix 1 is dead, 2 is live, and 2,1 is the answer.
+/// The search on x1³, x1x2, x2² by Janet division: prefix 1 is dead, 2 is live, and 2,1 is the
+/// answer.
 pub fn settle_set_b() -> Found
     ensures tested { result.tested ≡ 3 }
     ensures ordering { result.ordering ≡ Some (2 ∷ 1 ∷ 0 ∷ 0 ∷ 0 ∷ 0 ∷ 0 ∷ 0 ∷ []) }
