@@ -13,7 +13,8 @@ module _ {admits : ℕ → Bool} {h : History} {b : Book} (reached : OpenedThenW
       let begun = a_fresh_book_is_sound admits h.variables h.places reached.variable_count reached.place_count in
       let sound = a_reached_book_is_sound reached in
       record {
-        no_other_outcome = λ others c other. one_run (fresh admits h.variables h.places) b c h.calls h.answers others begun reached.lawful reached.run other;
+        no_other_outcome = λ others c other. one_run (fresh admits h.variables h.places) b c h.calls h.answers others
+            begun reached.lawful reached.run other;
         no_false_none = no_false_none b sound;
         one_cone_for_each_multiple = one_cone_for_each_multiple b sound;
         locating_names_that_cone = locating_names_that_cone b sound;
@@ -22,14 +23,22 @@ module _ {admits : ℕ → Bool} {h : History} {b : Book} (reached : OpenedThenW
       }
 
   -- one call more
-  pub reached_by : (c : Book) (call : Call) (told : Answer) → LawfulCall call → Answered b call told → Follows b call c → OpenedThenWentThrough admits (and_then h call told) c
+  pub reached_by : (c : Book) (call : Call) (told : Answer) → LawfulCall call → Answered b call told →
+      Follows b call c → OpenedThenWentThrough admits (and_then h call told) c
   reached_by c call told law answered follows =
-      record { variable_count = reached.variable_count; place_count = reached.place_count; lawful = lawful_push h.calls reached.lawful; run = run_push reached.run }
+      record {
+        variable_count = reached.variable_count;
+        place_count = reached.place_count;
+        lawful =
+            lawful_push h.calls reached.lawful;
+        run = run_push reached.run;
+      }
     where
       lawful_push : (xs : List Call) → LawfulCalls xs → LawfulCalls (xs ++ call ∷ [])
       lawful_push [] laws = (law, tt)
       lawful_push (x ∷ xs) laws = (laws.0, lawful_push xs laws.1)
 
-      run_push : {d : Book} {xs : List Call} {ys : List Answer} → Run d xs ys b → Run d (xs ++ call ∷ []) (ys ++ told ∷ []) c
+      run_push : {d : Book} {xs : List Call} {ys : List Answer} → Run d xs ys b →
+          Run d (xs ++ call ∷ []) (ys ++ told ∷ []) c
       run_push over = next answered follows over
       run_push (next t f run) = next t f (run_push run)

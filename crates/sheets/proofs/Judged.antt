@@ -1,10 +1,10 @@
 -- What the checks of a call decide, where the grant may count on them. Assumes nothing.
-use Rattle.std.proofs.Common.{◌≡◌, ℕ, ◌⊎◌, List, [], ◌∷◌, sym, ◌∙◌, inl, inr, arith}
+use Rattle.std.proofs.Common.{◌≡◌, ℕ, ◌⊎◌, List, [], ◌∷◌, sym, ◌∙◌, inl, inr}
 use Rattle.orderings.specs.Answer.{granted, refused, Check, Judged}
 use Rattle.orderings.proofs.Judging.{Hold}
 
 pub granted_not_refused : {us vs : List ℕ} {r : ℕ} → granted us ≡ refused r vs → ⊥
-granted_not_refused e = let z : ◌≡◌ {A = ℕ} 0 1 = cc in absurd (omega arith)
+granted_not_refused e = absurd cc
 
 module _ {O : Type 0} (refuse : ℕ → O) (G : O → Type 0) where
   -- refused, or granted with every check holding
@@ -17,7 +17,8 @@ module _ {O : Type 0} (refuse : ℕ → O) (G : O → Type 0) where
   ]
 
   -- where the grant has one outcome when every check holds, there is one outcome
-  pub held_once : (cs : List Check) → (Hold cs → (a b : O) → G a → G b → a ≡ b) → (a b : O) → Judged refuse cs G a → Judged refuse cs G b → a ≡ b
+  pub held_once : (cs : List Check) → (Hold cs → (a b : O) → G a → G b → a ≡ b) → (a b : O) → Judged refuse cs G a →
+      Judged refuse cs G b → a ≡ b
   held_once [] once a b x y = once tt a b x y
   held_once (c ∷ cs) once a b (inl x) (inl y) = x.1 ∙ sym y.1
   held_once (c ∷ cs) once a b (inl x) (inr y) = absurd (x.0 y.0)

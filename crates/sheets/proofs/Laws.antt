@@ -16,7 +16,14 @@ use Rattle.sheets.proofs.Sound.{Sound}
 
 pub on : (b : Book) → Sound b → (order : List ℕ) → IsOrdering b.n order → OnSheet b.n b.rows order
 on b sound order o =
-    record { kind = b.admits; variables = sound.variables; few = omega (arith, sound.room, sound.places.most); fit = sound.rows; ordered = o }
+    record {
+      kind = b.admits;
+      variables = sound.variables;
+      few = omega (arith, sound.room, sound.places.most);
+      fit =
+          sound.rows;
+      ordered = o;
+    }
 
 -- no element lies in two cones of a lawful division
 pub one_cone : (b : Book) → Sound b → (m : Meaning) → Lawful m → (s t : ℕ) (w : Shown) →
@@ -26,8 +33,9 @@ one_cone b sound m law s t w =
     (lawful_limits_are_separated m law b.n b.rows b.order (on b sound b.order sound.ordered)) s t w
 
 -- an answer of 16 is given where no ordering serves
-by_sixteen : (n : ℕ) (rows : List Shown) (d : Meaning) (told : Answer) (vs : List ℕ) → TellsSettled n rows d told → told ≡ refused 16 vs → NoneComplete d n rows
-by_sixteen n rows d told vs (serving best) e = let z : ◌≡◌ {A = ℕ} 0 1 = cc in absurd (omega arith)
+by_sixteen : (n : ℕ) (rows : List Shown) (d : Meaning) (told : Answer) (vs : List ℕ) → TellsSettled n rows d told →
+    told ≡ refused 16 vs → NoneComplete d n rows
+by_sixteen n rows d told vs (serving best) e = absurd cc
 by_sixteen n rows d told vs (unserved never) e = never
 
 not_that_number : {r q : ℕ} {us vs : List ℕ} → refused r us ≡ refused q vs → r ≡ q
@@ -37,7 +45,8 @@ module _ (b : Book) (sound : Sound b) where
   finds_none : 1 ≤ length b.rows → (d : Meaning) → SettlingFindsNone b d → NoneComplete d b.n b.rows
   finds_none some d (count, inl x) = absurd (omega (arith, not_that_number x.1))
   finds_none some d (count, inr (t, inl x)) = absurd (omega (arith, not_that_number x.1))
-  finds_none some d (count, inr (t, inr (h, tells))) = by_sixteen b.n b.rows d (refused 16 (count ∷ [])) (count ∷ []) tells refl
+  finds_none some d (count, inr (t, inr (h, tells))) = by_sixteen b.n b.rows d (refused 16 (count ∷ [])) (count ∷ [])
+      tells refl
 
   found_none : b.state ≡ opened → 1 ≤ length b.rows → (d : Meaning) → NoneComplete d b.n b.rows → SettlingFindsNone b d
   found_none free some d never =
@@ -56,7 +65,8 @@ module _ (b : Book) (m : Meaning) (sound : Sound b) (e : b.state ≡ settled_by 
       at_state (λ c. (s : ℕ) × Located c w s × ((t : ℕ) → Located c w t → t ≡ s))
       (here.0, here.1, λ t at. one_cone b sound m kept.0 t here.0 w at here.1)
 
-  named_by : (x : Shown) → Admitted b.admits b.n x → Multiple b x → (s : ℕ) × Located b x s × Answered b (locate x) (granted (s ∷ []))
+  named_by : (x : Shown) → Admitted b.admits b.n x → Multiple b x → (s : ℕ) × Located b x s ×
+      Answered b (locate x) (granted (s ∷ []))
   named_by x fit multiple =
       let s = lies_once x multiple in
       let takes : Takes b.state (locate x) = subst (λ (t : State). Takes t (locate x)) (sym e) tt in
@@ -81,4 +91,5 @@ module _ (b : Book) (sound : Sound b) where
   locating_finds_no_other m e = not_named b m sound e
 
   pub janet_like_completes_too : JanetLikeCompletesToo b
-  janet_like_completes_too d law order o = janet_like_completes_what_any_division_completes d law b.n b.rows order (on b sound order o)
+  janet_like_completes_too d law order o = janet_like_completes_what_any_division_completes d law b.n b.rows order
+      (on b sound order o)

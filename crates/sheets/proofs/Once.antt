@@ -7,12 +7,12 @@ use Rattle.orderings.specs.Answer.{Answer, granted, refused}
 use Rattle.orderings.specs.Rows.{row}
 use Rattle.orderings.proofs.Judging.{Hold}
 use Rattle.divisions.specs.Laws.{Meaning}
-use Rattle.cones.specs.Cones.{Limits, FirstShortfall}
+use Rattle.cones.specs.Cones.{Limits, IsFirstShortfall}
 use Rattle.search.specs.Prefixes.{Before, padded}
 use Rattle.search.specs.Liveness.{tested}
 use Rattle.search.specs.Theorems.{FirstComplete}
 use Rattle.search.proofs.Orders.{ordering_of}
-use Rattle.sheets.specs.Book.{Book, State, opened, settled_by, Call, insert, withdraw, arrange, bar, limit, verdict, weigh, settle, locate, reopen, Takes, checks, Becomes, Settles, first, none, Tells, TellsBar, starred, unstarred, TellsVerdict, complete, short, TellsSettled, serving, unserved, Located, with_state, with_order, with_rows, Follows, Answered}
+use Rattle.sheets.specs.Book.{Book, State, opened, settled_by, Call, insert, withdraw, arrange, bar, limit, verdict, weigh, settle, locate, reopen, Takes, checks, Becomes, BecomesSettled, first, none, Tells, TellsBar, starred, unstarred, TellsVerdict, complete, short, TellsSettled, serving, unserved, Located, with_state, with_order, with_rows, Follows, Answered}
 use Rattle.sheets.specs.History.{Run, over, next, LawfulCalls}
 use Rattle.sheets.proofs.Judged.{held_once}
 use Rattle.sheets.proofs.Sound.{Sound, every_call_keeps_books_sound}
@@ -35,17 +35,21 @@ alike [] (y ∷ ys) e f g = absurd (f tt)
 alike (x ∷ xs) [] e f g = absurd (g tt)
 alike (x ∷ xs) (y ∷ ys) e f g =
     let head : x ≡ y = level x y (λ l. f (inl l)) (λ l. g (inl l)) in
-    let tail : xs ≡ ys = alike xs ys (omega arith) (λ before. f (inr (head, before))) (λ before. g (inr (sym head, before))) in
+    let tail : xs ≡ ys = alike xs ys (omega arith) (λ before. f (inr (head, before)))
+    (λ before. g (inr (sym head, before))) in
     cc
 
-one_first : (m : Meaning) (n : ℕ) (rows : List Shown) (p q : List ℕ) → FirstComplete m n rows p → FirstComplete m n rows q → p ≡ q
+one_first : (m : Meaning) (n : ℕ) (rows : List Shown) (p q : List ℕ) → FirstComplete m n rows p →
+    FirstComplete m n rows q → p ≡ q
 one_first m n rows p q a b =
-    alike p q (a.full ∙ sym b.full) (λ before. b.none_before p a.prefix a.full before a.complete) (λ before. a.none_before q b.prefix b.full before b.complete)
+    alike p q (a.full ∙ sym b.full) (λ before. b.none_before p a.prefix a.full before a.complete)
+    (λ before. a.none_before q b.prefix b.full before b.complete)
 
-one_shortfall : (n : ℕ) (rows : List Shown) (lim : Limits) (p v m q x l : ℕ) → FirstShortfall n rows lim p v m → FirstShortfall n rows lim q x l → (p ≡ q) × (v ≡ x) × (m ≡ l)
+one_shortfall : (n : ℕ) (rows : List Shown) (lim : Limits) (p v m q x l : ℕ) → IsFirstShortfall n rows lim p v m →
+    IsFirstShortfall n rows lim q x l → (p ≡ q) × (v ≡ x) × (m ≡ l)
 one_shortfall n rows lim p v m q x l a b =
     let place : p ≡ q = level p q (λ h. b.none_lower p v m h a.shortfall) (λ h. a.none_lower q x l h b.shortfall) in
-    let at = subst (λ (k : ℕ). FirstShortfall n rows lim k x l) (sym place) b in
+    let at = subst (λ (k : ℕ). IsFirstShortfall n rows lim k x l) (sym place) b in
     let variable : v ≡ x = level v x (λ h. at.none_before v m h a.shortfall) (λ h. a.none_before x l h at.shortfall) in
     let limit : Some m ≡ Some l = sym a.shortfall.limit ∙ ap (λ (k : ℕ). lim p k) variable ∙ at.shortfall.limit in
     let power : m ≡ l = cc in
@@ -66,8 +70,10 @@ module _ (b : Book) (sound : Sound b) where
   -- a row stands at one place, so the rows come apart at it in one way
   one_split : (e : Shown) (f g h k : List Shown) → b.rows ≡ f ++ e ∷ g → b.rows ≡ h ++ e ∷ k → f ++ g ≡ h ++ k
   one_split e f g h k s t =
-      let left : row b.rows (length f) ≡ e = ap (λ (r : List Shown). row r (length f)) s ∙ get_or_at f e g blank (length f) refl in
-      let right : row b.rows (length h) ≡ e = ap (λ (r : List Shown). row r (length h)) t ∙ get_or_at h e k blank (length h) refl in
+      let left : row b.rows (length f) ≡ e = ap (λ (r : List Shown). row r (length f)) s ∙
+      get_or_at f e g blank (length f) refl in
+      let right : row b.rows (length h) ≡ e = ap (λ (r : List Shown). row r (length h)) t ∙
+      get_or_at h e k blank (length h) refl in
       let fl : length b.rows ≡ length (f ++ e ∷ g) = ap length s in
       let hl : length b.rows ≡ length (h ++ e ∷ k) = ap length t in
       let fa = length-append f (e ∷ g) in
@@ -77,13 +83,14 @@ module _ (b : Book) (sound : Sound b) where
       (λ l. sound.rows.different (length h) (length f) l (omega arith) (right ∙ sym left)) in
       one_parting f g h k e place (sym s ∙ t)
 
-  one_settling : (d : Meaning) (c o : Book) → Settles b d c → Settles b d o → c ≡ o
+  one_settling : (d : Meaning) (c o : Book) → BecomesSettled b d c → BecomesSettled b d o → c ≡ o
   one_settling d c o (none x) (none y) = refl
   one_settling d c o (none x) (first {p = q} y) =
       absurd (x (padded q) (ordering_of b.n q sound.variables.most y.prefix.entries y.full) y.complete)
   one_settling d c o (first {p = p} x) (none y) =
       absurd (y (padded p) (ordering_of b.n p sound.variables.most x.prefix.entries x.full) x.complete)
-  one_settling d c o (first {p = p} x) (first {p = q} y) = ap (λ (r : List ℕ). with_state (with_order b (padded r)) (settled_by d)) (one_first d b.n b.rows p q x y)
+  one_settling d c o (first {p = p} x) (first {p = q} y) =
+      ap (λ (r : List ℕ). with_state (with_order b (padded r)) (settled_by d)) (one_first d b.n b.rows p q x y)
 
   one_book : (call : Call) (c d : Book) → Becomes b call c → Becomes b call d → c ≡ d
   one_book (insert e) c d x y = x ∙ sym y
@@ -97,13 +104,15 @@ module _ (b : Book) (sound : Sound b) where
   one_book (locate e) c d x y = x ∙ sym y
   one_book reopen c d x y = x ∙ sym y
 
-one_bar : (rows : List Shown) (order : List ℕ) (u : Shown) (v : ℕ) (a o : Answer) → TellsBar rows order u v a → TellsBar rows order u v o → a ≡ o
+one_bar : (rows : List Shown) (order : List ℕ) (u : Shown) (v : ℕ) (a o : Answer) → TellsBar rows order u v a →
+    TellsBar rows order u v o → a ≡ o
 one_bar rows order u v a o (starred x) (starred y) = refl
 one_bar rows order u v a o (starred x) (unstarred y) = absurd (y x)
 one_bar rows order u v a o (unstarred x) (starred y) = absurd (x y)
 one_bar rows order u v a o (unstarred x) (unstarred y) = refl
 
-one_verdict : (n : ℕ) (rows : List Shown) (lim : Limits) (a o : Answer) → TellsVerdict n rows lim a → TellsVerdict n rows lim o → a ≡ o
+one_verdict : (n : ℕ) (rows : List Shown) (lim : Limits) (a o : Answer) → TellsVerdict n rows lim a →
+    TellsVerdict n rows lim o → a ≡ o
 one_verdict n rows lim a o (complete x) (complete y) = refl
 one_verdict n rows lim a o (complete x) (short f s) = absurd (f x)
 one_verdict n rows lim a o (short f s) (complete y) = absurd (f y)
@@ -111,18 +120,24 @@ one_verdict n rows lim a o (short {p} {v} {m} f s) (short {p = q} {v = x} {m = l
     let same = one_shortfall n rows lim p v m q x l s t in
     rw (same.0, same.1, same.2)
 
-one_told : (n : ℕ) (rows : List Shown) (d : Meaning) → n ≤ 8 → (a o : Answer) → TellsSettled n rows d a → TellsSettled n rows d o → a ≡ o
-one_told n rows d few a o (serving {p = p} x) (serving {p = q} y) = ap (λ (r : List ℕ). granted (length (tested d n rows) ∷ padded r)) (one_first d n rows p q x y)
-one_told n rows d few a o (serving {p = p} x) (unserved y) = absurd (y (padded p) (ordering_of n p few x.prefix.entries x.full) x.complete)
-one_told n rows d few a o (unserved x) (serving {p = q} y) = absurd (x (padded q) (ordering_of n q few y.prefix.entries y.full) y.complete)
+one_told : (n : ℕ) (rows : List Shown) (d : Meaning) → n ≤ 8 → (a o : Answer) → TellsSettled n rows d a →
+    TellsSettled n rows d o → a ≡ o
+one_told n rows d few a o (serving {p = p} x) (serving {p = q} y) =
+    ap (λ (r : List ℕ). granted (length (tested d n rows) ∷ padded r)) (one_first d n rows p q x y)
+one_told n rows d few a o (serving {p = p} x) (unserved y) =
+    absurd (y (padded p) (ordering_of n p few x.prefix.entries x.full) x.complete)
+one_told n rows d few a o (unserved x) (serving {p = q} y) =
+    absurd (x (padded q) (ordering_of n q few y.prefix.entries y.full) y.complete)
 one_told n rows d few a o (unserved x) (unserved y) = refl
 
 -- a settled book places an element in one cone
-one_place : (b : Book) → Sound b → (state : State) → b.state ≡ state → (e : Shown) → Takes state (locate e) → (s t : ℕ) → Located b e s → Located b e t → s ≡ t
+one_place : (b : Book) → Sound b → (state : State) → b.state ≡ state → (e : Shown) → Takes state (locate e) →
+    (s t : ℕ) → Located b e s → Located b e t → s ≡ t
 one_place b sound opened at e takes s t x y = absurd takes
 one_place b sound (settled_by m) at e takes s t x y =
     let P : State → ℕ → Type 0 = λ u k. Located (with_state b u) e k in
-    one_cone b sound m (sound.settled m at).0 s t e (subst (λ (u : State). P u s) at x) (subst (λ (u : State). P u t) at y)
+    one_cone b sound m (sound.settled m at).0 s t e (subst (λ (u : State). P u s) at x)
+    (subst (λ (u : State). P u t) at y)
 
 module _ (b : Book) (sound : Sound b) where
   one_answer : (call : Call) → Hold (checks b call) → (a o : Answer) → Tells b call a → Tells b call o → a ≡ o
@@ -140,16 +155,23 @@ module _ (b : Book) (sound : Sound b) where
 
 -- the book and the call fix the answer and the book after it
 pub a_call_has_one_outcome : (b : Book) (call : Call) → Sound b →
-    ((c d : Book) → Follows b call c → Follows b call d → c ≡ d) × ((a o : Answer) → Answered b call a → Answered b call o → a ≡ o)
-a_call_has_one_outcome b call sound =
-    (held_once (λ _. b) (Becomes b call) (checks b call) (λ _. one_book b sound call), held_once (λ r. refused r []) (Tells b call) (checks b call) (one_answer b sound call))
+    ((c d : Book) → Follows b call c → Follows b call d → c ≡ d) ×
+    ((a o : Answer) → Answered b call a → Answered b call o → a ≡ o)
+a_call_has_one_outcome b call sound = (
+  held_once (λ _. b) (Becomes b call) (checks b call) (λ _. one_book b sound call),
+  held_once (λ r. refused r [])
+      (Tells b call) (checks b call) (one_answer b sound call),
+)
 
-pub one_run : (b c d : Book) (calls : List Call) (answers others : List Answer) → Sound b → LawfulCalls calls → Run b calls answers c → Run b calls others d → (others ≡ answers) × (d ≡ c)
+pub one_run : (b c d : Book) (calls : List Call) (answers others : List Answer) → Sound b → LawfulCalls calls →
+    Run b calls answers c → Run b calls others d → (others ≡ answers) × (d ≡ c)
 one_run b c d calls answers others sound laws over over = (refl, refl)
-one_run b c d calls answers others sound laws (next {c = x} {call = call} {told = a} {calls = rest} {answers = more} told follows run) (next {c = y} {told = o} {answers = yet} again goes on) =
+one_run b c d calls answers others sound laws (next {c = x} {call = call} {told = a} {calls = rest} {answers =
+    more} told follows run) (next {c = y} {told = o} {answers = yet} again goes on) =
     let once = a_call_has_one_outcome b call sound in
     let book : y ≡ x = once.0 y x goes follows in
     let answer : o ≡ a = once.1 o a again told in
-    let same = one_run x c d rest more yet (every_call_keeps_books_sound b x call laws.0 sound follows) laws.1 run (subst (λ (z : Book). Run z rest yet d) book on) in
+    let same = one_run x c d rest more yet (every_call_keeps_books_sound b x call laws.0 sound follows) laws.1 run
+    (subst (λ (z : Book). Run z rest yet d) book on) in
     let tail = same.0 in
     (cc, same.1)

@@ -10,7 +10,7 @@ use Rattle.divisions.specs.Laws.{Meaning, Lawful}
 use Rattle.cones.specs.Cones.{Complete}
 use Rattle.search.specs.Prefixes.{padded}
 use Rattle.search.proofs.Orders.{ordering_of}
-use Rattle.sheets.specs.Book.{Book, State, opened, settled_by, Call, insert, withdraw, arrange, bar, limit, verdict, weigh, settle, locate, reopen, Takes, checks, Becomes, Settles, first, none, with_rows, with_order, with_state, Follows, fresh}
+use Rattle.sheets.specs.Book.{Book, State, opened, settled_by, Call, insert, withdraw, arrange, bar, limit, verdict, weigh, settle, locate, reopen, Takes, checks, Becomes, BecomesSettled, first, none, with_rows, with_order, with_state, Follows, fresh}
 use Rattle.sheets.proofs.Natural.{natural_ordered}
 use Rattle.sheets.proofs.Rows.{rows_push, rows_split_off}
 use Rattle.sheets.specs.Sheet.{PlaceCount}
@@ -28,7 +28,7 @@ pub record Sound (b : Book) : Type 0 where
   pub settled : (m : Meaning) → b.state ≡ settled_by m → Lawful m × Complete b.n b.rows (m b.rows b.order)
 
 pub not_both : (s : State) (m : Meaning) → s ≡ opened → s ≡ settled_by m → ⊥
-not_both s m o e = let z : ◌≡◌ {A = ℕ} 0 1 = cc in absurd (omega arith)
+not_both s m o e = absurd cc
 
 pub one_division : (m d : Meaning) → settled_by m ≡ settled_by d → m ≡ d
 one_division m d e = cc
@@ -47,7 +47,8 @@ taken_open (settled_by m) (settle d) o t = absurd t
 taken_open (settled_by m) (locate e) o t = absurd o
 taken_open (settled_by m) reopen o t = absurd o
 
-pub a_fresh_book_is_sound : (admits : ℕ → Bool) (n places : ℕ) → VariableCount n → PlaceCount places → Sound (fresh admits n places)
+pub a_fresh_book_is_sound : (admits : ℕ → Bool) (n places : ℕ) → VariableCount n → PlaceCount places →
+    Sound (fresh admits n places)
 a_fresh_book_is_sound admits n places count room =
     record {
       variables = count;
@@ -60,7 +61,8 @@ a_fresh_book_is_sound admits n places count room =
 
 module _ (b : Book) (sound : Sound b) where
   -- other rows on an open book
-  with_rows_sound : (rows : List Shown) → b.state ≡ opened → length rows ≤ b.places → Rows b.admits b.n rows → Sound (with_rows b rows)
+  with_rows_sound : (rows : List Shown) → b.state ≡ opened → length rows ≤ b.places → Rows b.admits b.n rows →
+      Sound (with_rows b rows)
   with_rows_sound rows free room fit =
       record {
         variables = sound.variables;
@@ -73,7 +75,8 @@ module _ (b : Book) (sound : Sound b) where
 
   -- another ordering and state, with what the state promises
   ordered_sound : (order : List ℕ) (state : State) → IsOrdering b.n order →
-      ((m : Meaning) → state ≡ settled_by m → Lawful m × Complete b.n b.rows (m b.rows order)) → Sound (with_state (with_order b order) state)
+      ((m : Meaning) → state ≡ settled_by m → Lawful m × Complete b.n b.rows (m b.rows order)) →
+      Sound (with_state (with_order b order) state)
   ordered_sound order state ordered settled =
       record {
         variables = sound.variables;
@@ -84,7 +87,7 @@ module _ (b : Book) (sound : Sound b) where
         settled = settled;
       }
 
-  settles_sound : (d : Meaning) (c : Book) → Lawful d → Settles b d c → Sound c
+  settles_sound : (d : Meaning) (c : Book) → Lawful d → BecomesSettled b d c → Sound c
   settles_sound d c law (none never) = sound
   settles_sound d c law (first {p = p} best) =
       ordered_sound (padded p) (settled_by d) (ordering_of b.n p sound.variables.most best.prefix.entries best.full)
@@ -100,22 +103,26 @@ module _ (b : Book) (sound : Sound b) where
       let P : List Shown → Type 0 = λ r. Rows b.admits b.n r in
       let long : length b.rows ≡ length (front ++ e ∷ back) = cc in
       rw e' (with_rows_sound (front ++ back) (taken_open b.state (withdraw e) tt h.0)
-      (omega (arith, sound.room, length-append front back, length-append front (e ∷ back))) (rows_split_off b.admits b.n front back e (subst P split sound.rows)))
+      (omega (arith, sound.room, length-append front back, length-append front (e ∷ back)))
+      (rows_split_off b.admits b.n front back e (subst P split sound.rows)))
   becomes_sound (arrange o) c law h e' =
-      rw e' (ordered_sound o b.state h.1.0 (λ m e. absurd (not_both b.state m (taken_open b.state (arrange o) tt h.0) e)))
+      rw e' (ordered_sound o b.state h.1.0
+      (λ m e. absurd (not_both b.state m (taken_open b.state (arrange o) tt h.0) e)))
   becomes_sound (bar p v) c law h e' = rw e' sound
   becomes_sound (limit d p v) c law h e' = rw e' sound
   becomes_sound (verdict d) c law h e' = rw e' sound
   becomes_sound (weigh d o) c law h e' = rw e' sound
   becomes_sound (settle d) c law h s = settles_sound d c law s
   becomes_sound (locate e) c law h e' = rw e' sound
-  becomes_sound reopen c law h e' = rw e' (ordered_sound b.order opened sound.ordered (λ m e. absurd (not_both opened m refl e)))
+  becomes_sound reopen c law h e' = rw e' (ordered_sound b.order opened sound.ordered
+      (λ m e. absurd (not_both opened m refl e)))
 
 pub every_call_keeps_books_sound : (b c : Book) (call : Call) → LawfulCall call → Sound b → Follows b call c → Sound c
-every_call_keeps_books_sound b c call law sound follows = elim (refused_or_held (λ _. b) (Becomes b call) (checks b call) c follows) [
-  | inl r ↦ subst Sound (sym r.1) sound
-  | inr h ↦ becomes_sound b sound call c law h.0 h.1
-]
+every_call_keeps_books_sound b c call law sound follows =
+    elim (refused_or_held (λ _. b) (Becomes b call) (checks b call) c follows) [
+      | inl r ↦ subst Sound (sym r.1) sound
+      | inr h ↦ becomes_sound b sound call c law h.0 h.1
+    ]
 
 -- no call alters the count of variables
 becomes_keeps_n : (b c : Book) (call : Call) → Becomes b call c → c.n ≡ b.n
@@ -128,7 +135,7 @@ becomes_keeps_n b c (verdict d) e' = ap (λ (x : Book). x.n) e'
 becomes_keeps_n b c (weigh d o) e' = ap (λ (x : Book). x.n) e'
 becomes_keeps_n b c (settle d) s = settles_keeps_n b d c s
   where
-    settles_keeps_n : (b : Book) (d : Meaning) (c : Book) → Settles b d c → c.n ≡ b.n
+    settles_keeps_n : (b : Book) (d : Meaning) (c : Book) → BecomesSettled b d c → c.n ≡ b.n
     settles_keeps_n b d c (first best) = refl
     settles_keeps_n b d c (none never) = refl
 becomes_keeps_n b c (locate e) e' = ap (λ (x : Book). x.n) e'
@@ -140,9 +147,11 @@ every_call_keeps_n b c call follows = elim (refused_or_held (λ _. b) (Becomes b
   | inr h ↦ becomes_keeps_n b c call h.1
 ]
 
-pub every_run_keeps_books_sound : (b c : Book) (calls : List Call) (answers : List Answer) → Sound b → LawfulCalls calls → Run b calls answers c → Sound c
+pub every_run_keeps_books_sound : (b c : Book) (calls : List Call) (answers : List Answer) → Sound b →
+    LawfulCalls calls → Run b calls answers c → Sound c
 every_run_keeps_books_sound b c calls answers sound laws over = sound
-every_run_keeps_books_sound b c calls answers sound laws (next {c = d} {call = call} {calls = rest} {answers = more} told follows run) =
+every_run_keeps_books_sound b c calls answers sound laws (next {c = d} {call = call} {calls = rest} {answers =
+    more} told follows run) =
     every_run_keeps_books_sound d c rest more (every_call_keeps_books_sound b d call laws.0 sound follows) laws.1 run
 
 -- a book that was opened and went through calls

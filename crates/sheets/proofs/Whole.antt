@@ -9,10 +9,11 @@ use Rattle.sheets.specs.Book.{Book}
 use Rattle.sheets.specs.Read.{ABookFixesItsSheet}
 
 -- lists of elements that show the same are the same
-same_elements : {E : Type 0} (shown : E → Shown) → ((x y : E) → shown x ≡ shown y → x ≡ y) → (xs ys : List E) → map shown xs ≡ map shown ys → xs ≡ ys
+same_elements : {E : Type 0} (shown : E → Shown) → ((x y : E) → shown x ≡ shown y → x ≡ y) → (xs ys : List E) →
+    map shown xs ≡ map shown ys → xs ≡ ys
 same_elements shown known [] [] e = refl
-same_elements shown known [] (y ∷ ys) e = let z : ◌≡◌ {A = ℕ} 0 1 = cc in absurd (omega arith)
-same_elements shown known (x ∷ xs) [] e = let z : ◌≡◌ {A = ℕ} 0 1 = cc in absurd (omega arith)
+same_elements shown known [] (y ∷ ys) e = absurd cc
+same_elements shown known (x ∷ xs) [] e = absurd cc
 same_elements shown known (x ∷ xs) (y ∷ ys) e =
     let head : shown x ≡ shown y = cc in
     let tail : map shown xs ≡ map shown ys = cc in
@@ -31,9 +32,14 @@ same_table count s t len room rows left right =
 
 header_path : (a b : Header) → a.variables ≡ b.variables → a.rows ≡ b.rows → a ≡ b
 header_path a b e f =
-    ap (λ (x : ℕ). record { variables = x; rows = a.rows }) e ∙ ap (λ (x : ℕ). record { variables = b.variables; rows = x }) f
+    ap (λ (x : ℕ). record { variables = x; rows = a.rows }) e ∙ ap (λ (x : ℕ). record {
+      variables = b.variables;
+      rows =
+          x;
+    }) f
 
-pub a_book_fixes_its_sheet : {E : Type 0} (admits : ℕ → Bool) (shown : E → Shown) → ((x y : E) → shown x ≡ shown y → x ≡ y) → ABookFixesItsSheet admits shown
+pub a_book_fixes_its_sheet : {E : Type 0} (admits : ℕ → Bool) (shown : E → Shown) →
+    ((x y : E) → shown x ≡ shown y → x ≡ y) → ABookFixesItsSheet admits shown
 a_book_fixes_its_sheet admits shown known state p q sp sq e =
     let s = map shown (vec_items p.table) in
     let t = map shown (vec_items q.table) in
@@ -46,7 +52,8 @@ a_book_fixes_its_sheet admits shown known state p q sp sq e =
     let count : p.header.rows ≡ q.header.rows =
     sym (length-take-le p.header.rows s sp.room) ∙ ap length rows ∙ length-take-le q.header.rows t sq.room in
     let n : p.header.variables ≡ q.header.variables = ap (λ (b : Book). b.n) e in (
-      same_elements shown known _ _ (same_table p.header.rows s t (omega arith) sp.room (rw (← count) at rows) sp.blanks (λ k l. sq.blanks k (omega arith))),
+      same_elements shown known _ _ (same_table p.header.rows s t (omega arith) sp.room (rw (← count) at rows)
+          sp.blanks (λ k l. sq.blanks k (omega arith))),
       ap (λ (b : Book). b.order) e,
       header_path p.header q.header n count,
     )

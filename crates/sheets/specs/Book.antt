@@ -1,6 +1,6 @@
 -- The plain book that a sheet is read as, and what calls do to it. Assumes nothing.
 use Rattle.std.specs.Prelude.{◌≡◌, ℕ, ◌<◌, ◌≤◌, Bool, List, [], ◌∷◌, ◌++◌, length, Some, None, Option}
-use Rattle.std.specs.List.{ContainsAt as Has}
+use Rattle.std.specs.List.{ContainsAt}
 use Rattle.elements.specs.Element.{Shown}
 use Rattle.orderings.specs.Answer.{Answer, granted, refused, Check, check, Judged, Answers}
 use Rattle.orderings.specs.Fit.{Admitted, Fit}
@@ -8,7 +8,7 @@ use Rattle.orderings.specs.Order.{VariableCount, IsOrdering}
 use Rattle.orderings.specs.Rows.{row}
 use Rattle.barcode.specs.Bars.{Star, bar_number}
 use Rattle.divisions.specs.Laws.{Meaning}
-use Rattle.cones.specs.Cones.{Limits, InCone, Complete, FirstShortfall}
+use Rattle.cones.specs.Cones.{Limits, InCone, Complete, IsFirstShortfall}
 use Rattle.search.specs.Prefixes.{padded}
 use Rattle.search.specs.Liveness.{tested}
 use Rattle.search.specs.Theorems.{FirstComplete, NoneComplete}
@@ -18,7 +18,8 @@ pub data State : Type 0 where
   opened : State
   settled_by : Meaning → State
 
--- the kind by the families that it admits, the variable count, the number of places, the rows from place 0 on, the ordering and the state
+-- the kind by the families that it admits, the variable count, the number of places, the rows from
+-- place 0 on, the ordering and the state
 pub record Book : Type 0 where
   pub admits : ℕ → Bool
   pub n : ℕ
@@ -80,8 +81,10 @@ pub record HasBar (b : Book) (p v : ℕ) : Type 0 where
 
 -- what a call asks of what it is handed and of the book, in the order of the refusals
 abbrev pub asks : Book → Call → List Check
-asks b (insert e) = check 9 (Fit b.admits b.n e) ∷ check 13 (Has b.rows e → ⊥) ∷ check 14 (length b.rows < b.places) ∷ []
-asks b (withdraw e) = check 9 (Fit b.admits b.n e) ∷ check 15 (Has b.rows e) ∷ []
+asks b (insert e) =
+    check 9 (Fit b.admits b.n e) ∷ check 13 (ContainsAt b.rows e → ⊥) ∷
+    check 14 (length b.rows < b.places) ∷ []
+asks b (withdraw e) = check 9 (Fit b.admits b.n e) ∷ check 15 (ContainsAt b.rows e) ∷ []
 asks b (arrange o) = check 11 (IsOrdering b.n o) ∷ []
 asks b (bar p v) = check 10 (HasBar b p v) ∷ []
 asks b (limit d p v) = check 10 (HasBar b p v) ∷ []
@@ -95,37 +98,63 @@ abbrev pub checks : Book → Call → List Check
 checks b call = check 3 (Takes b.state call) ∷ asks b call
 
 abbrev pub with_rows : Book → List Shown → Book
-with_rows b rows = record { admits = b.admits; n = b.n; places = b.places; rows = rows; order = b.order; state = b.state }
+with_rows b rows = record {
+  admits = b.admits;
+  n = b.n;
+  places = b.places;
+  rows = rows;
+  order = b.order;
+  state = b.state;
+}
 
 abbrev pub with_order : Book → List ℕ → Book
-with_order b order = record { admits = b.admits; n = b.n; places = b.places; rows = b.rows; order = order; state = b.state }
+with_order b order = record {
+  admits = b.admits;
+  n = b.n;
+  places = b.places;
+  rows = b.rows;
+  order = order;
+  state = b.state;
+}
 
 abbrev pub with_state : Book → State → Book
-with_state b state = record { admits = b.admits; n = b.n; places = b.places; rows = b.rows; order = b.order; state = state }
+with_state b state = record {
+  admits = b.admits;
+  n = b.n;
+  places = b.places;
+  rows = b.rows;
+  order = b.order;
+  state = state;
+}
 
--- settling writes the first ordering, as prefixes are listed, that makes the rows complete by the division, and the division;
--- where no ordering does, nothing changes
-pub data Settles (b : Book) (d : Meaning) : Book → Type 0 where
-  first : {p : List ℕ} → FirstComplete d b.n b.rows p → Settles b d (with_state (with_order b (padded p)) (settled_by d))
-  none : NoneComplete d b.n b.rows → Settles b d b
+-- settling writes the first ordering, as prefixes are listed, that makes the rows complete by the
+-- division, and the division; where no ordering does, nothing changes
+pub data BecomesSettled (b : Book) (d : Meaning) : Book → Type 0 where
+  first : {p : List ℕ} → FirstComplete d b.n b.rows p →
+      BecomesSettled b d (with_state (with_order b (padded p)) (settled_by d))
+  none : NoneComplete d b.n b.rows → BecomesSettled b d b
 
 -- what a call that is not refused makes of the book
 abbrev pub Becomes : Book → Call → Book → Type 0
 Becomes b (insert e) c = c ≡ with_rows b (b.rows ++ e ∷ [])
-Becomes b (withdraw e) c = (front : List Shown) × (back : List Shown) × (b.rows ≡ front ++ e ∷ back) × (c ≡ with_rows b (front ++ back))
+Becomes b (withdraw e) c =
+    (front : List Shown) × (back : List Shown) × (b.rows ≡ front ++ e ∷ back) ×
+    (c ≡ with_rows b (front ++ back))
 Becomes b (arrange o) c = c ≡ with_order b o
 Becomes b (bar p v) c = c ≡ b
 Becomes b (limit d p v) c = c ≡ b
 Becomes b (verdict d) c = c ≡ b
 Becomes b (weigh d o) c = c ≡ b
-Becomes b (settle d) c = Settles b d c
+Becomes b (settle d) c = BecomesSettled b d c
 Becomes b (locate e) c = c ≡ b
 Becomes b reopen c = c ≡ with_state b opened
 
 -- a bar is told by its number, and 1 where a star follows it or else 0
 pub data TellsBar (rows : List Shown) (order : List ℕ) (u : Shown) (v : ℕ) : Answer → Type 0 where
-  starred : Star rows order u v → TellsBar rows order u v (granted (bar_number rows order u v ∷ 1 ∷ []))
-  unstarred : (Star rows order u v → ⊥) → TellsBar rows order u v (granted (bar_number rows order u v ∷ 0 ∷ []))
+  starred : Star rows order u v →
+      TellsBar rows order u v (granted (bar_number rows order u v ∷ 1 ∷ []))
+  unstarred : (Star rows order u v → ⊥) →
+      TellsBar rows order u v (granted (bar_number rows order u v ∷ 0 ∷ []))
 
 -- a limit is told by itself, and its absence by nothing
 abbrev pub limit_told : Option ℕ → List ℕ
@@ -137,16 +166,22 @@ abbrev pub element_told : Shown → List ℕ
 element_told e = e.family ∷ e.exponents
 
 -- a verdict is told by 1 for yes or 0 for no, a place, a variable, a power and an element.
--- Yes exactly where the rows are complete: then the numbers are 0 and the element is the row at place 0.
+-- Yes exactly where the rows are complete: then the numbers are 0 and the element is the row at
+-- place 0.
 -- Else the first shortfall: the place of its row, its variable and its power, and the row itself
 pub data TellsVerdict (n : ℕ) (rows : List Shown) (lim : Limits) : Answer → Type 0 where
-  complete : Complete n rows lim → TellsVerdict n rows lim (granted (1 ∷ 0 ∷ 0 ∷ 0 ∷ element_told (row rows 0)))
-  short : {p v m : ℕ} → (Complete n rows lim → ⊥) → FirstShortfall n rows lim p v m → TellsVerdict n rows lim (granted (0 ∷ p ∷ v ∷ m ∷ element_told (row rows p)))
+  complete : Complete n rows lim →
+      TellsVerdict n rows lim (granted (1 ∷ 0 ∷ 0 ∷ 0 ∷ element_told (row rows 0)))
+  short : {p v m : ℕ} → (Complete n rows lim → ⊥) → IsFirstShortfall n rows lim p v m →
+      TellsVerdict n rows lim (granted (0 ∷ p ∷ v ∷ m ∷ element_told (row rows p)))
 
--- a settling is told by the count of tested prefixes and the ordering's eight bytes; where no ordering serves, by 16 and the count
+-- a settling is told by the count of tested prefixes and the ordering's eight bytes; where no
+-- ordering serves, by 16 and the count
 pub data TellsSettled (n : ℕ) (rows : List Shown) (d : Meaning) : Answer → Type 0 where
-  serving : {p : List ℕ} → FirstComplete d n rows p → TellsSettled n rows d (granted (length (tested d n rows) ∷ padded p))
-  unserved : NoneComplete d n rows → TellsSettled n rows d (refused 16 (length (tested d n rows) ∷ []))
+  serving : {p : List ℕ} → FirstComplete d n rows p →
+      TellsSettled n rows d (granted (length (tested d n rows) ∷ padded p))
+  unserved : NoneComplete d n rows →
+      TellsSettled n rows d (refused 16 (length (tested d n rows) ∷ []))
 
 -- what a call that is not refused by its checks answers
 abbrev pub Tells : Book → Call → Answer → Type 0
@@ -171,8 +206,16 @@ Answered b call a = Answers (checks b call) (Tells b call) a
 
 -- the book of a sheet that was just opened
 abbrev pub fresh : (ℕ → Bool) → ℕ → ℕ → Book
-fresh admits n places = record { admits = admits; n = n; places = places; rows = []; order = natural_order n; state = opened }
+fresh admits n places = record {
+  admits = admits;
+  n = n;
+  places = places;
+  rows = [];
+  order = natural_order n;
+  state = opened;
+}
 
 -- what open asks: the variable count, the number of places, eight order bytes
 abbrev pub open_asks : ℕ → ℕ → ℕ → List Check
-open_asks n places bytes = check 5 (VariableCount n) ∷ check 6 (PlaceCount places) ∷ check 7 (bytes ≡ 8) ∷ []
+open_asks n places bytes =
+    check 5 (VariableCount n) ∷ check 6 (PlaceCount places) ∷ check 7 (bytes ≡ 8) ∷ []

@@ -4,15 +4,27 @@ use Rattle.elements.specs.Element.{Shown}
 use Rattle.orderings.specs.Answer.{Answer, granted, refused, refusal, Answers}
 use Rattle.divisions.specs.Laws.{Meaning}
 use Rattle.sheets.specs.declared.parts.Parts.{Parts}
-use Rattle.sheets.specs.declared.parts.OpenSheet.{OpenSheet}
-use Rattle.sheets.specs.declared.parts.SettledSheet.{SettledSheet}
-use Rattle.sheets.specs.declared.parts.Denied.{Denied}
-use Rattle.sheets.specs.declared.parts.Bar.{Bar}
-use Rattle.sheets.specs.declared.parts.Verdict.{Verdict}
-use Rattle.sheets.specs.declared.parts.Served.{Served}
+use Rattle.sheets.specs.declared.open_sheet.OpenSheet.{OpenSheet}
+use Rattle.sheets.specs.declared.settled_sheet.SettledSheet.{SettledSheet}
+use Rattle.sheets.specs.declared.answers.Denied.{Denied}
+use Rattle.sheets.specs.declared.answers.Bar.{Bar}
+use Rattle.sheets.specs.declared.answers.Verdict.{Verdict}
+use Rattle.sheets.specs.declared.answers.ServingOrdering.{ServingOrdering}
 use Rattle.sheets.specs.Sheet.{Makes}
 use Rattle.sheets.specs.Book.{Book, State, opened, settled_by, Call, Follows, Answered, element_told, fresh, open_asks}
 use Rattle.sheets.specs.History.{History, just_opened, and_then, OpenedThenWentThrough, HoldsAfterEveryCall}
+
+-- what the places of the table show
+abbrev pub places_of : {E : Type 0} → (E → Shown) → Parts E → List Shown
+places_of shown p = map shown (vec_items p.table)
+
+-- and the first of them, which are the rows, as many as the header says
+abbrev pub rows_of : {E : Type 0} → (E → Shown) → Parts E → List Shown
+rows_of shown p = take p.header.rows (places_of shown p)
+
+-- the order bytes
+abbrev pub order_of : {E : Type 0} → Parts E → List ℕ
+order_of p = vec_items p.order
 
 -- bar's values
 abbrev pub bar_told : Bar → List ℕ
@@ -24,8 +36,8 @@ verdict_told shown v =
     (if v.complete then 1 else 0) ∷ v.place ∷ v.variable ∷ v.power ∷ element_told (shown v.element)
 
 -- the values of a settling
-abbrev pub served_told : Served → List ℕ
-served_told s = s.tested ∷ s.ordering
+abbrev pub serving_told : ServingOrdering → List ℕ
+serving_told s = s.tested ∷ s.ordering
 
 -- the division by which a sheet was settled
 abbrev pub settled_division : {E D : Type 0} → SettledSheet E D → D
@@ -47,10 +59,8 @@ module _ {X Y : Type 0} where
 
 module _ {E : Type 0} (admits : ℕ → Bool) (shown : E → Shown) where
   -- the parts make a sheet of the kind
-  abbrev pub Stands : Parts E → Type 0
-  Stands p =
-      Makes admits p.header.variables p.header.rows
-      (map shown (vec_items p.table)) (vec_items p.order)
+  abbrev pub MakesSheet : Parts E → Type 0
+  MakesSheet p = Makes admits p.header.variables p.header.rows (places_of shown p) (order_of p)
 
   -- the parts, with a state, as a book
   abbrev pub book : State → Parts E → Book
@@ -58,15 +68,15 @@ module _ {E : Type 0} (admits : ℕ → Bool) (shown : E → Shown) where
     admits = admits;
     n = p.header.variables;
     places = vec_len p.table;
-    rows = take p.header.rows (map shown (vec_items p.table));
-    order = vec_items p.order;
+    rows = rows_of shown p;
+    order = order_of p;
     state = state;
   }
 
   -- the book of a sheet fixes the whole of it: table, order bytes and header
   abbrev pub ABookFixesItsSheet : Type 0
   ABookFixesItsSheet =
-      (state : State) (p q : Parts E) → Stands p → Stands q → book state p ≡ book state q →
+      (state : State) (p q : Parts E) → MakesSheet p → MakesSheet q → book state p ≡ book state q →
       (vec_items p.table ≡ vec_items q.table) × (vec_items p.order ≡ vec_items q.order) ×
       (p.header ≡ q.header)
 
@@ -74,7 +84,7 @@ module _ {E : Type 0} (admits : ℕ → Bool) (shown : E → Shown) where
   -- rows by place, their ordering, the state and with it the division are those of the book that
   -- went through it
   pub record EqualsThePlainBook (h : History) (state : State) (parts : Parts E) : Type 0 where
-    pub stands : Stands parts
+    pub makes_sheet : MakesSheet parts
     pub reached : OpenedThenWentThrough admits h (book state parts)
 
   -- and all holds that is promised of that book
@@ -87,10 +97,10 @@ module _ {E : Type 0} (admits : ℕ → Bool) (shown : E → Shown) where
     -- a call on any parts, in a state, with the answer and the state and parts after it: where
     -- they make a sheet it is a step of the book, and else 8; what is refused alters nothing
     pub record FollowsThePlainBook : Type 0 where
-      pub stands : Stands before → Stands after
-      pub follows : Stands before → Follows (book state before) call (book next after)
-      pub answered : Stands before → Answered (book state before) call told
-      pub refused_by_8 : (Stands before → ⊥) → told ≡ refused 8 []
+      pub makes_sheet : MakesSheet before → MakesSheet after
+      pub follows : MakesSheet before → Follows (book state before) call (book next after)
+      pub answered : MakesSheet before → Answered (book state before) call told
+      pub refused_by_8 : (MakesSheet before → ⊥) → told ≡ refused 8 []
       pub refused_alters_nothing :
           (r : ℕ) (vs : List ℕ) → told ≡ refused r vs → (next ≡ state) × (after ≡ before)
 
@@ -118,7 +128,7 @@ module _ {E : Type 0} (admits : ℕ → Bool) (shown : E → Shown) where
         Answers (open_asks before.header.variables (vec_len before.table) (vec_len before.order))
         (λ a. a ≡ granted []) (outcome_answer (λ _. []) result)
     pub outcome : MatchResult result
-        (λ s. Stands s.parts ×
+        (λ s. MakesSheet s.parts ×
         (book opened s.parts ≡ fresh admits before.header.variables (vec_len before.table)))
         (λ d. d.back ≡ before)
     pub once_opened : IfOk result

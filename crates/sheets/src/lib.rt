@@ -1,11 +1,10 @@
 // The sheet: its parts, what makes a sheet, and the calls on an open one and on a settled one.
 #![tactic(auto)]
 
-pub mod editing;
+pub mod answers;
 pub mod judging;
-pub mod locating;
+pub mod open_sheet;
 pub mod opening;
 pub mod parts;
-pub mod reading;
-pub mod settling;
-pub mod weighing;
+pub mod settled_sheet;
+mod sheet_view;

@@ -6,5 +6,6 @@ use Rattle.sheets.proofs.judging.are_blank.Goals as goal
 pub returns : goal.returns
 returns g c =
     let e = c.blank-nothing_here.result in
-    all_show g.E.Element.shown g.met.E.Element.known c.args.places.now e c.blank-nothing_here.ensures c.all.result
-    (cases_from_all c.all.new.self _ _ (λ x. x ≡ e) (λ x. x ≢ e) c.all.ensures.ran (YieldsList-from_slice c.args.places.now cc) (λ x q k. search (rules, tests)) (λ x q k. search (rules, tests)))
+    all_show g.E.Element.shown g.met.E.Kind.known c.args.places.now e c.blank-nothing_here.ensures c.all.result
+    (cases_from_all c.all.new.self _ _ (λ x. x ≡ e) (λ x. x ≢ e) c.all.ensures.ran
+    (YieldsList-from_slice c.args.places.now cc) (λ x q k. search (rules, tests)) (λ x q k. search (rules, tests)))

@@ -8,11 +8,12 @@ pub loop-place-preserved : goal.loop-place-preserved
 loop-place-preserved g c =
     let t = c.loop-place.table in
     let l : c.loop-place.place-index < length t = omega (arith, c.loop-place-test.true) in
-    below_more _ _ (λ j h. row_kept g.E.Element.shown t c.loop-place.place-index j c.blank.result h ∙ c.loop-place.invariant j h)
+    below_more _ _ (λ j h. row_kept g.E.Element.shown t c.loop-place.place-index j c.blank.result h ∙
+    c.loop-place.invariant j h)
     (row_written g.E.Element.shown t c.loop-place.place-index c.blank.result l ∙ c.blank.ensures)
 
-pub returns-clause-blanks : goal.returns-clause-blanks
-returns-clause-blanks g c = λ p. elim (cases_lt p c.loop-place.place-index) [
+pub returns-clause-blank : goal.returns-clause-blank
+returns-clause-blank g c = λ p. elim (cases_lt p c.loop-place.place-index) [
   | inl l ↦ c.loop-place.invariant p l
   | inr l ↦ row_past g.E.Element.shown c.loop-place.table p (omega (arith, c.loop-place-test.false))
 ]

@@ -14,12 +14,19 @@ returns-in-Ok g c =
     let p = c.args.parts in
     let asks = open_asks p.header.variables (vec_len p.table) (vec_len p.order) in
     let holds : Hold asks = holds_of asks (λ a. a ≡ granted []) [] c.in-Ok.ensures in
-    let table : vec_items (with_items p.table c.clear.new.table) ≡ c.clear.new.table = with_items_is p.table c.clear.new.table (c.clear.ensures.len ∙ c.deref_mut.ensures.len) in
+    let table : vec_items (with_items p.table c.clear.new.table) ≡ c.clear.new.table =
+    with_items_is p.table c.clear.new.table (c.clear.ensures.length ∙ c.deref_mut.ensures.len) in
     let natural = c.natural_order.ensures holds.0.most in
-    let outcome = opened_by g.E.Element.admitted shown record { table = with_items p.table c.clear.new.table; order = c.copy_from_slice.new.self; header = record { variables = p.header.variables; rows = 0 } }
-    _ _ holds.0 holds.1.0 refl (λ k. ap (λ xs. row (map shown xs) k) table ∙ c.clear.ensures.blanks k) (c.copy_from_slice.ensures.items ∙ natural) refl refl in
+    let outcome = opened_by g.E.Kind.admitted shown record {
+      table = with_items p.table c.clear.new.table;
+      order =
+          c.copy_from_slice.new.self;
+      header = record { variables = p.header.variables; rows = 0 };
+    }
+    _ _ holds.0 holds.1.0 refl (λ k. ap (λ xs. row (map shown xs) k) table ∙ c.clear.ensures.blank k)
+    (c.copy_from_slice.ensures.items ∙ natural) refl refl in
     record {
       answered = c.in-Ok.ensures;
       outcome = outcome;
-      once_opened = once_opened_by g.E.Element.admitted shown _ _ _ holds.0 holds.1.0 outcome.0 outcome.1;
+      once_opened = once_opened_by g.E.Kind.admitted shown _ _ _ holds.0 holds.1.0 outcome.0 outcome.1;
     }

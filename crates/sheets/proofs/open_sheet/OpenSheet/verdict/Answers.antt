@@ -1,0 +1,11 @@
+use Rattle.std.proofs.Common.{rules}
+use Rattle.sheets.proofs.Steps.{as_promised}
+use Rattle.sheets.proofs.open_sheet.OpenSheet.verdict.Goals as goal
+
+pub returns-then-self-lt1 : goal.returns-then-self-lt1
+returns-then-self-lt1 g c = as_promised g.E.Kind.admitted g.E.Element.shown
+    (g.met.D.Division.lawful c.args.division.now) (search rules)
+
+pub returns : goal.returns
+returns g c = as_promised g.E.Kind.admitted g.E.Element.shown (g.met.D.Division.lawful c.args.division.now)
+    (search rules)

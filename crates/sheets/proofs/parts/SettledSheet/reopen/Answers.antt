@@ -1,6 +1,0 @@
-use Rattle.std.proofs.Common.{rules}
-use Rattle.sheets.proofs.Steps.{as_promised}
-use Rattle.sheets.proofs.parts.SettledSheet.reopen.Goals as goal
-
-pub returns-in-Ok-clause-step : goal.returns-in-Ok-clause-step
-returns-in-Ok-clause-step g c = as_promised g.E.Element.admitted g.E.Element.shown tt (search rules)
