@@ -8,7 +8,8 @@ abbrev pub pair : List ℕ → ℕ → ℕ
 pair bytes k = get_or bytes (2 * k + 1) 0 * 256 + get_or bytes (2 * k + 2) 0
 
 -- all exponents, with the family
-pub element_written : (bytes xs : List ℕ) (f : ℕ) → f ≡ get_or bytes 0 0 → length xs ≡ 8 → ((k : ℕ) → k < 8 → get_or xs k 0 ≡ pair bytes k) →
+pub element_written : (bytes xs : List ℕ) (f : ℕ) → f ≡ get_or bytes 0 0 → length xs ≡ 8 →
+    ((k : ℕ) → k < 8 → get_or xs k 0 ≡ pair bytes k) →
     record { family = f; exponents = xs } ≡ element bytes
 unfolding element
 element_written bytes xs f ef n h =

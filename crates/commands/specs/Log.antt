@@ -40,7 +40,7 @@ pub record Unknown (log : List ℕ) (first : ℕ) : Type 0 where
   pub parts : log ≡ first ∷ after
 
 -- a code that fewer bytes follow than it has operand bytes
-pub record Short (log : List ℕ) (code : ℕ) : Type 0 where
+pub record CutShort (log : List ℕ) (code : ℕ) : Type 0 where
   pub after : List ℕ
   pub known : Code code
   pub short : length after < width code
@@ -50,11 +50,16 @@ pub record Short (log : List ℕ) (code : ℕ) : Type 0 where
 abbrev pub Reads : List ℕ → Front → Type 0
 Reads log nothing = log ≡ []
 Reads log (command code operands rest) = Whole log code operands rest
-Reads log (misread first number) = (Unknown log first × (number ≡ 1)) ⊎ (Short log first × (number ≡ 2))
+Reads log (misread first number) =
+    (Unknown log first × (number ≡ 1)) ⊎ (CutShort log first × (number ≡ 2))
 
--- an element by its bytes: the family, then the exponents of variables 1 to 8, two bytes each, the high byte first
+-- an element by its bytes: the family, then the exponents of variables 1 to 8, two bytes each, the
+-- high byte first
 unfoldable pub element : List ℕ → Shown
-element bytes = record { family = slice_index bytes 0; exponents = term (λ v. slice_index bytes (2 * v - 1) * 256 + slice_index bytes (2 * v)) }
+element bytes = record {
+  family = slice_index bytes 0;
+  exponents = term (λ v. slice_index bytes (2 * v - 1) * 256 + slice_index bytes (2 * v));
+}
 
 -- a log begins in one way only
 abbrev pub ReadingHasOneOutcome : Type 0

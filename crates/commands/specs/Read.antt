@@ -34,6 +34,10 @@ abbrev pub number_of : Misread → ℕ
 number_of UnknownCode = 1
 number_of CutShort = 2
 
+-- a code that the log ends after too soon
+abbrev pub cut_short : ℕ → Misreading
+cut_short code = record { code = code; cause = CutShort }
+
 -- what the reader tells of a log's front
 abbrev pub front : Result (Option Reading) Misreading → Front
 front (Ok None) = nothing

@@ -3,20 +3,20 @@
 
 ghost use Rattle.std.specs.Prelude.{◌≡◌, ◌<◌, [], ◌∷◌, length, MatchResult, slice_index};
 ghost use Rattle.commands.specs.Log.{Reads, ReadingHasOneOutcome, Parted, element};
-ghost use Rattle.commands.specs.Read.{code_of, number_of, front};
+ghost use Rattle.commands.specs.Read.{code_of, number_of, cut_short, front};
 
-use elements::Element;
+use elements::Kind;
 use std::array;
 
-// A command, with the part of the log that holds its operands.
+/// A command, with the part of the log that holds its operands.
 #[derive(Clone, Copy, PartialEq, Eq, Debug)]
 pub enum Command<'a> {
-    // The bytes of an element.
+    /// The bytes of an element.
     Insert(&'a [u8]),
     Withdraw(&'a [u8]),
-    // Order bytes.
+    /// Order bytes.
     Arrange(&'a [u8]),
-    // A division byte.
+    /// A division byte.
     Verdict(&'a u8),
     Weigh { division: &'a u8, order: &'a [u8] },
     Settle(&'a u8),
@@ -42,12 +42,12 @@ impl From<Command<'_>> for u8 {
     }
 }
 
-// Why no command can be read.
+/// Why no command can be read.
 #[derive(Clone, Copy, PartialEq, Eq, Debug)]
 pub enum Misread {
-    // The first byte is no code.
+    /// The first byte is no code.
     UnknownCode,
-    // The log ends inside the command.
+    /// The log ends inside the command.
     CutShort,
 }
 
@@ -63,14 +63,14 @@ impl From<Misread> for u8 {
     }
 }
 
-// A command and what follows it in the log.
+/// A command and what follows it in the log.
 #[derive(Clone, Copy, PartialEq, Eq, Debug)]
 pub struct Reading<'a> {
     pub command: Command<'a>,
     pub rest: &'a [u8],
 }
 
-// A first byte that begins no whole command, and why.
+/// A first byte that begins no whole command, and why.
 #[derive(Clone, Copy, PartialEq, Eq, Debug)]
 pub struct Misreading {
     pub code: u8,
@@ -83,7 +83,9 @@ const ORDER_BYTES: usize = 8;
 
 // So many bytes after a code, and the rest.
 fn part(code: u8, after: &[u8], count: usize) -> Result<(&[u8], &[u8]), Misreading>
-    ensures { MatchResult result (λ p. Parted count after.now p.0.now p.1.now) (λ e. (length after.now < count) × (e ≡ record { code = code; cause = Misread.CutShort })) }
+    ensures { MatchResult result
+        (λ p. Parted count after.now p.0.now p.1.now)
+        (λ e. (length after.now < count) × (e ≡ cut_short code)) }
 {
     if after.len() < count {
         return Err(Misreading {
@@ -96,7 +98,9 @@ fn part(code: u8, after: &[u8], count: usize) -> Result<(&[u8], &[u8]), Misreadi
 
 // One byte after a code, and the rest.
 fn one(code: u8, after: &[u8]) -> Result<(&u8, &[u8]), Misreading>
-    ensures { MatchResult result (λ p. after.now ≡ p.0.now ∷ p.1.now) (λ e. (after.now ≡ []) × (e ≡ record { code = code; cause = Misread.CutShort })) }
+    ensures { MatchResult result
+        (λ p. after.now ≡ p.0.now ∷ p.1.now)
+        (λ e. (after.now ≡ []) × (e ≡ cut_short code)) }
 {
     match after {
         [byte, rest @ ..] => Ok((byte, rest)),
@@ -107,9 +111,10 @@ fn one(code: u8, after: &[u8]) -> Result<(&u8, &[u8]), Misreading>
     }
 }
 
-// The command at the front of a log, if any is left. The first byte decides it, and then what follows is judged.
-// Each code has an arm that names its first byte and what follows: so each command's operands and their widths are read off
-// its arm, and a first byte without an arm is no code.
+/// The command at the front of a log, if any is left. The first byte decides it, and then what
+/// follows is judged. Each code has an arm that names its first byte and what follows: so each
+/// command's operands and their widths are read off its arm, and a first byte without an arm is no
+/// code.
 #[tactic(auto, using(crate::proofs::Fronts::reading_has_one_outcome))]
 pub fn read(log: &[u8]) -> Result<Option<Reading<'_>>, Misreading>
     ensures reads { Reads log.now (front result) }
@@ -167,9 +172,10 @@ fn byte_at(bytes: &[u8], place: usize) -> u8
     bytes.get(place).copied().unwrap_or(0)
 }
 
-// The element that its bytes say: the family, then eight exponents, two bytes each, the high byte first. A byte that is not there is 0.
-pub fn element_of<E: Element>(bytes: &[u8]) -> E
-    ensures { E.Element.shown result ≡ element bytes.now }
+/// The element that its bytes say: the family, then eight exponents, two bytes each, the high byte
+/// first. A byte that is not there is 0.
+pub fn element_of<E: Kind>(bytes: &[u8]) -> E
+    ensures { E.shown result ≡ element bytes.now }
 {
     let exponents = array::from_fn(|i| {
         u16::from_be_bytes([byte_at(bytes, 2 * i + 1), byte_at(bytes, 2 * i + 2)])

@@ -3,7 +3,7 @@ use Rattle.std.specs.Prelude.{ℕ, List, [], ◌∷◌, map, take, codes, decima
 use Rattle.lines.specs.declared.faults.Cause.{Cause}
 use Rattle.lines.specs.declared.faults.Fault.{Fault}
 use Rattle.lines.specs.declared.lines.Told.{Told}
-use Rattle.lines.specs.declared.lines.Told.TheVariants.{Nothing, Place, Complete, Short, Settled}
+use Rattle.lines.specs.declared.lines.Told.TheVariants.{Nothing, Place, Complete, Shortfall, Settled}
 use Rattle.lines.specs.declared.lines.Granted.{Granted}
 use Rattle.lines.specs.declared.lines.Line.{Line}
 use Rattle.lines.specs.Numbers.{cause_number, cause_values}
@@ -14,8 +14,9 @@ abbrev pub told_words : Told → List (List ℕ)
 told_words Nothing = []
 told_words (Place p) = decimal p ∷ []
 told_words Complete = codes "yes" ∷ []
-told_words (Short place variable power) = decimal place ∷ decimal variable ∷ decimal power ∷ []
-told_words (Settled tested variables ordering) = decimal tested ∷ map decimal (take variables ordering)
+told_words (Shortfall place variable power) = decimal place ∷ decimal variable ∷ decimal power ∷ []
+told_words (Settled tested variables ordering) =
+    decimal tested ∷ map decimal (take variables ordering)
 
 -- the number of a cause, and its values
 abbrev pub cause_words : Cause → List (List ℕ)

@@ -1,5 +1,5 @@
 -- Terms and orderings as people write them. Assumes nothing.
-use Rattle.std.specs.Prelude.{ℕ, List, [], ◌∷◌, ◌++◌, map, filter, codes, decimal, nat_lt, ◌==◌, cond}
+use Rattle.std.specs.Prelude.{ℕ, List, [], ◌∷◌, ◌++◌, map, filter, codes, decimal, nat_lt, ◌==◌, if◌then◌else◌}
 use Rattle.std.specs.List.{enumerate_from}
 use Rattle.lines.specs.Words.{each}
 
@@ -10,7 +10,7 @@ joined separator (w ∷ ws) = w ++ each (λ x. separator ++ x) ws
 
 -- a variable and its exponent, as x1 or x1^3
 abbrev pub power_text : ℕ × ℕ → List ℕ
-power_text p = codes "x" ++ (decimal p.0 ++ cond (p.1 == 1) [] (codes "^" ++ decimal p.1))
+power_text p = codes "x" ++ (decimal p.0 ++ (if p.1 == 1 then [] else codes "^" ++ decimal p.1))
 
 -- a product of words, 1 where there is none
 abbrev pub product_text : List (List ℕ) → List ℕ

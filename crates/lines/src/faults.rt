@@ -6,12 +6,12 @@ ghost use Rattle.lines.specs.declared.faults.Cause.TheVariants.{Reader, Session,
 use commands::Misread;
 use orderings::refusals::Refusal;
 
-// Why the session does not take a command.
+/// Why the session does not take a command.
 #[derive(Clone, Copy, PartialEq, Eq, Debug)]
 pub enum Untaken {
-    // The session's state does not take it.
+    /// The session's state does not take it.
     WrongState,
-    // Its division byte is not one of a division.
+    /// Its division byte is not one of a division.
     NoSuchDivision,
 }
 
@@ -27,7 +27,7 @@ impl From<Untaken> for u8 {
     }
 }
 
-// A cause, by the layer that it belongs to.
+/// A cause, by the layer that it belongs to.
 #[derive(Clone, Copy, PartialEq, Eq, Debug)]
 pub enum Cause {
     Reader(Misread),
@@ -72,7 +72,7 @@ impl From<Cause> for u8 {
     }
 }
 
-// A fault: where the command stands, its code, and the cause.
+/// A fault: where the command stands, its code, and the cause.
 #[derive(Clone, Copy, PartialEq, Eq, Debug)]
 pub struct Fault {
     pub place: usize,

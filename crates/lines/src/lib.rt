@@ -1,4 +1,5 @@
-// What the log program prints: faults by their layer, the line of each command, and the whole output, with their text; terms and orderings in text.
+// What the log program prints: faults by their layer, the line of each command, and the whole
+// output, with their text; terms and orderings in text.
 #![tactic(auto)]
 
 pub mod faults;

@@ -7,23 +7,25 @@ use crate::faults::*;
 use orderings::refusals::Refusal;
 use std::fmt::{self, Display};
 
-// What a granted command answers, as it is printed. A shortfall and a settling are told in fields of their own:
-// printing rests on no crate of cones or sheets.
+/// What a granted command answers, as it is printed.
+// A shortfall and a settling are told in fields of their own: printing rests on no crate of cones
+// or sheets.
 #[derive(Clone, Copy, PartialEq, Eq, Debug)]
 pub enum Told {
     Nothing,
-    // The place of a row.
+    /// The place of a row.
     Place(usize),
-    // The rows are complete.
+    /// The rows are complete.
     Complete,
-    // The first shortfall: the place of its row, its variable and its power.
-    Short {
+    /// The first shortfall: the place of its row, its variable and its power.
+    Shortfall {
         place: usize,
         variable: u8,
         power: u16,
     },
-    // How many prefixes were tested, and the ordering that was left, of so many variables.
-    // It is the sheet's own eight bytes, handed on as they are; the zeros after the variables are not printed.
+    /// How many prefixes were tested, and the ordering that was left, of so many variables. It is
+    /// the sheet's own eight bytes, handed on as they are; the zeros after the variables are not
+    /// printed.
     Settled {
         tested: u32,
         variables: u8,
@@ -31,7 +33,7 @@ pub enum Told {
     },
 }
 
-// A granted command: where it stands, its code, and what it answers.
+/// A granted command: where it stands, its code, and what it answers.
 #[derive(Clone, Copy, PartialEq, Eq, Debug)]
 pub struct Granted {
     pub place: usize,
@@ -39,7 +41,8 @@ pub struct Granted {
     pub told: Told,
 }
 
-// The line of one command. It stands around the Result, which can have no Display of its own.
+/// The line of one command.
+// It stands around the Result, which can have no Display of its own.
 #[derive(Clone, Copy, PartialEq, Eq, Debug)]
 pub struct Line(pub Result<Granted, Fault>);
 
@@ -52,7 +55,7 @@ impl Display for Told {
             Told::Nothing => Ok(()),
             Told::Place(place) => write!(f, " {place}"),
             Told::Complete => write!(f, " yes"),
-            Told::Short {
+            Told::Shortfall {
                 place,
                 variable,
                 power,

@@ -1,21 +1,20 @@
 // The whole output of the log program.
-ghost use Rattle.std.specs.Prelude.{◌≡◌, ◌<◌, MatchResult, Some};
+ghost use Rattle.std.specs.Prelude.{◌≡◌, ◌<◌, Some};
 ghost use Rattle.lines.specs.Words.{each, ended};
 ghost use Rattle.lines.specs.Line.{line_text};
-ghost use Rattle.lines.specs.Report.{start_number, kind_number, report_text};
-ghost use Rattle.lines.specs.declared.reports.BadStart.TheVariants.{NoSuchKind};
+ghost use Rattle.lines.specs.Report.{start_number, kind_number, SaysKind, report_text};
 
 use crate::lines::*;
 use std::fmt;
 
-// Why an input has no log.
+/// Why an input has no log.
 #[derive(Clone, Copy, PartialEq, Eq, Debug)]
 pub enum BadStart {
-    // It has fewer than two bytes.
+    /// It has fewer than two bytes.
     CutShort,
-    // Its kind byte is not one of a kind.
+    /// Its kind byte is not one of a kind.
     NoSuchKind,
-    // Its variable count is 0 or above 8.
+    /// Its variable count is 0 or above 8.
     VariableCount,
 }
 
@@ -32,49 +31,52 @@ impl From<BadStart> for u8 {
     }
 }
 
-// The kind of a log's elements.
+/// The kind of a log's elements.
 #[derive(Clone, Copy, PartialEq, Eq, Debug)]
-pub enum Kind {
+pub enum LogKind {
     PlainTerms,
     Derivatives,
 }
 
 // The kind that a kind byte says.
-impl TryFrom<u8> for Kind {
+impl TryFrom<u8> for LogKind {
     type Error = BadStart;
 
-    ghost try_from_gives = { λ b r. MatchResult r (λ k. kind_number k ≡ b) (λ e. (e ≡ NoSuchKind) × (1 < b)) };
+    ghost try_from_gives = { λ b r. SaysKind b r };
 
-    fn try_from(byte: u8) -> Result<Kind, BadStart> {
+    fn try_from(byte: u8) -> Result<LogKind, BadStart> {
         match byte {
-            0 => Ok(Kind::PlainTerms),
-            1 => Ok(Kind::Derivatives),
+            0 => Ok(LogKind::PlainTerms),
+            1 => Ok(LogKind::Derivatives),
             _ => Err(BadStart::NoSuchKind),
         }
     }
 }
 
 // The kind byte that says it.
-impl From<Kind> for u8 {
+impl From<LogKind> for u8 {
     ghost from_gives = { λ k n. n ≡ kind_number k };
 
-    fn from(kind: Kind) -> u8 {
+    fn from(kind: LogKind) -> u8 {
         match kind {
-            Kind::PlainTerms => 0,
-            Kind::Derivatives => 1,
+            LogKind::PlainTerms => 0,
+            LogKind::Derivatives => 1,
         }
     }
 }
 
-// What there is to print of an input. It is no Result: each case is text to print, none is an error to its caller, and a Result cannot have a Display of its own.
+/// What there is to print of an input.
+// It is no Result: each case is text to print, none is an error to its caller, and a Result cannot
+// have a Display of its own.
 #[derive(Drop)]
 pub enum Report {
     TooLong,
     NoLog(BadStart),
-    // The line of each command, and the place after the last whole one.
+    /// The line of each command, and the place after the last whole one.
     Log {
         variables: u8,
-        // its byte, and no Kind: a report may be made with any byte, and a narrower type would ask more of whoever makes one
+        // its byte, and no LogKind: a report may be made with any byte, and a narrower type would
+        // ask more of whoever makes one
         kind: u8,
         lines: Vec<Line>,
         end: usize,

@@ -20,7 +20,7 @@ impl fmt::Display for Power {
     }
 }
 
-// Eight exponents as a term, as x1^3 x2, and 1 where every exponent is 0.
+/// Eight exponents as a term, as x1^3 x2, and 1 where every exponent is 0.
 #[derive(Clone, Copy, PartialEq, Eq, Debug)]
 pub struct Monomial<'a>(pub &'a [u16; 8]);
 
@@ -44,7 +44,7 @@ impl fmt::Display for Monomial<'_> {
     }
 }
 
-// The variables of an ordering, the greatest first.
+/// The variables of an ordering, the greatest first.
 #[derive(Clone, Copy, PartialEq, Eq, Debug)]
 pub struct Listed<'a>(pub &'a [u8]);
 

@@ -4,7 +4,7 @@ use Rattle.std.specs.Option.{option_map}
 use Rattle.orderings.specs.Answer.{Answer}
 use Rattle.divisions.specs.Laws.{Meaning, Lawful}
 use Rattle.divisions.specs.Janet.{janet, janet_like, IsNumbered, by_1, by_2, by_none}
-use Rattle.divisions.specs.Kept.{janet_lawful, janet_like_lawful}
+use Rattle.divisions.specs.Lawfulness.{janet_lawful, janet_like_lawful}
 use Rattle.sheets.specs.Book.{Book, Call, verdict, weigh, settle, Answered, Follows}
 use Rattle.sheets.specs.History.{LawfulCall}
 use Rattle.sheets.proofs.Sound.{Sound, every_call_keeps_n, every_call_keeps_books_sound}
@@ -18,7 +18,8 @@ LawfulIfAny None = Unit {0}
 LawfulIfAny (Some call) = LawfulCall call
 
 -- a division that has a number is lawful
-lawful_numbered : (make : Meaning → Call) → ((m : Meaning) → Lawful m → LawfulCall (make m)) → (r : ℕ) (d : Option Meaning) → IsNumbered r d → LawfulIfAny (option_map make d)
+lawful_numbered : (make : Meaning → Call) → ((m : Meaning) → Lawful m → LawfulCall (make m)) →
+    (r : ℕ) (d : Option Meaning) → IsNumbered r d → LawfulIfAny (option_map make d)
 lawful_numbered make h r d (by_1 e) = h janet janet_lawful
 lawful_numbered make h r d (by_2 e) = h janet_like janet_like_lawful
 lawful_numbered make h r d (by_none e f) = tt
@@ -28,12 +29,14 @@ lawful_if_any code operands o inserts = tt
 lawful_if_any code operands o withdraws = tt
 lawful_if_any code operands o arranges = tt
 lawful_if_any code operands o (judges {r = r} {d = d} x) = lawful_numbered verdict (λ m law. law) r d x
-lawful_if_any code operands o (weighs {r = r} {d = d} {bytes = bytes} x) = lawful_numbered (λ m. weigh m bytes) (λ m law. law) r d x
+lawful_if_any code operands o (weighs {r = r} {d = d} {bytes = bytes} x) =
+    lawful_numbered (λ m. weigh m bytes) (λ m law. law) r d x
 lawful_if_any code operands o (settles {r = r} {d = d} x) = lawful_numbered settle (λ m law. law) r d x
 lawful_if_any code operands o locates = tt
 lawful_if_any code operands o reopens = tt
 
-pub a_command_calls_lawfully : (code : ℕ) (operands : List ℕ) (call : Call) → Calls code operands (Some call) → LawfulCall call
+pub a_command_calls_lawfully : (code : ℕ) (operands : List ℕ) (call : Call) → Calls code operands (Some call) →
+    LawfulCall call
 a_command_calls_lawfully code operands call x = lawful_if_any code operands (Some call) x
 
 -- a number is that of one division
@@ -53,36 +56,47 @@ one_call : (code : ℕ) (operands : List ℕ) (o p : Option Call) → Calls code
 one_call code operands o p inserts inserts = refl
 one_call code operands o p withdraws withdraws = refl
 one_call code operands o p arranges arranges = refl
-one_call code operands o p (judges {r = r} {d = d} x) (judges {d = e} y) = ap (option_map verdict) (one_numbered r d e x y)
-one_call code operands o p (weighs {r = r} {d = d} {bytes = bytes} x) (weighs {d = e} y) = ap (option_map (λ m. weigh m bytes)) (one_numbered r d e x y)
-one_call code operands o p (settles {r = r} {d = d} x) (settles {d = e} y) = ap (option_map settle) (one_numbered r d e x y)
+one_call code operands o p (judges {r = r} {d = d} x) (judges {d = e} y) =
+    ap (option_map verdict) (one_numbered r d e x y)
+one_call code operands o p (weighs {r = r} {d = d} {bytes = bytes} x) (weighs {d = e} y) =
+    ap (option_map (λ m. weigh m bytes)) (one_numbered r d e x y)
+one_call code operands o p (settles {r = r} {d = d} x) (settles {d = e} y) =
+    ap (option_map settle) (one_numbered r d e x y)
 one_call code operands o p locates locates = refl
 one_call code operands o p reopens reopens = refl
 
 -- a command keeps a book sound
-pub a_command_keeps_books_sound : (b c : Book) (code : ℕ) (operands : List ℕ) (told : Answer) → Sound b → Commanded b code operands told c → Sound c
+pub a_command_keeps_books_sound : (b c : Book) (code : ℕ) (operands : List ℕ) (told : Answer) → Sound b →
+    Commanded b code operands told c → Sound c
 a_command_keeps_books_sound b c code operands told sound (untaken x) = sound
 a_command_keeps_books_sound b c code operands told sound (undivided t x) = sound
 a_command_keeps_books_sound b c code operands told sound (called {call = call} t x answered follows) =
     every_call_keeps_books_sound b c call (a_command_calls_lawfully code operands call x) sound follows
 
 -- a command has one answer and comes to one book
-pub a_command_has_one_outcome : (b c d : Book) (code : ℕ) (operands : List ℕ) (a o : Answer) → Sound b → Commanded b code operands a c → Commanded b code operands o d → (a ≡ o) × (c ≡ d)
+pub a_command_has_one_outcome : (b c d : Book) (code : ℕ) (operands : List ℕ) (a o : Answer) → Sound b →
+    Commanded b code operands a c → Commanded b code operands o d → (a ≡ o) × (c ≡ d)
 a_command_has_one_outcome b c d code operands a o sound (untaken x) (untaken y) = (refl, refl)
 a_command_has_one_outcome b c d code operands a o sound (untaken x) (undivided t y) = absurd (x t)
 a_command_has_one_outcome b c d code operands a o sound (untaken x) (called t y u f) = absurd (x t)
 a_command_has_one_outcome b c d code operands a o sound (undivided t x) (untaken y) = absurd (y t)
 a_command_has_one_outcome b c d code operands a o sound (undivided t x) (undivided s y) = (refl, refl)
-a_command_has_one_outcome b c d code operands a o sound (undivided t x) (called {call = other} s y u f) = absurd (nothing_is_some (one_call code operands None (Some other) x y))
+a_command_has_one_outcome b c d code operands a o sound (undivided t x) (called {call = other} s y u f) =
+    absurd (nothing_is_some (one_call code operands None (Some other) x y))
 a_command_has_one_outcome b c d code operands a o sound (called t x u f) (untaken y) = absurd (y t)
-a_command_has_one_outcome b c d code operands a o sound (called {call = call} t x u f) (undivided s y) = absurd (nothing_is_some (one_call code operands None (Some call) y x))
+a_command_has_one_outcome b c d code operands a o sound (called {call = call} t x u f) (undivided s y) =
+    absurd (nothing_is_some (one_call code operands None (Some call) y x))
 a_command_has_one_outcome b c d code operands a o sound (called {call = call} t x u f) (called {call = other} s y v g) =
     let same : other ≡ call = sym (one_some (one_call code operands (Some other) (Some call) y x)) in
-    let once = a_call_has_one_outcome b call sound in
-    (once.1 a o u (subst (λ (k : Call). Answered b k o) same v), once.0 c d f (subst (λ (k : Call). Follows b k d) same g))
+    let once = a_call_has_one_outcome b call sound in (
+      once.1 a o u (subst (λ (k : Call). Answered b k o) same v),
+      once.0 c d f (subst (λ (k : Call). Follows b k d) same g),
+    )
 
 -- no command alters the count of variables
-pub a_command_keeps_n : (b c : Book) (code : ℕ) (operands : List ℕ) (told : Answer) → Commanded b code operands told c → c.n ≡ b.n
+pub a_command_keeps_n : (b c : Book) (code : ℕ) (operands : List ℕ) (told : Answer) →
+    Commanded b code operands told c → c.n ≡ b.n
 a_command_keeps_n b c code operands told (untaken x) = refl
 a_command_keeps_n b c code operands told (undivided t x) = refl
-a_command_keeps_n b c code operands told (called {call = call} t x answered follows) = every_call_keeps_n b c call follows
+a_command_keeps_n b c code operands told (called {call = call} t x answered follows) =
+    every_call_keeps_n b c call follows

@@ -13,8 +13,11 @@ use Rattle.lines.specs.declared.faults.Untaken.{Untaken}
 use Rattle.logs.specs.Session.{numbered_meaning}
 use Rattle.logs.specs.Told.{Requested}
 
-pub decided : {E : Type 0} (shown : E → Shown) (sheet s : Sheet E (OneOf Janet JanetLike)) (command k : Command) (r : Result (Request E (OneOf Janet JanetLike)) Untaken) → sheet ≡ s → command ≡ k →
-    Requested shown (state_of numbered_meaning s) (code_of k) (operands_of k) r → Requested shown (state_of numbered_meaning sheet) (code_of command) (operands_of command) r
+pub decided : {E : Type 0} (shown : E → Shown) (sheet s : Sheet E (OneOf Janet JanetLike)) (command k : Command)
+    (r : Result (Request E (OneOf Janet JanetLike)) Untaken) → sheet ≡ s → command ≡ k →
+    Requested shown (state_of numbered_meaning s) (code_of k) (operands_of k) r →
+    Requested shown (state_of numbered_meaning sheet) (code_of command) (operands_of command) r
 decided {E} shown sheet s command k r e f d =
-    subst (λ (x : Sheet E (OneOf Janet JanetLike)). Requested shown (state_of numbered_meaning x) (code_of command) (operands_of command) r) (sym e)
+    subst (λ (x : Sheet E (OneOf Janet JanetLike)). Requested shown (state_of numbered_meaning x) (code_of command)
+    (operands_of command) r) (sym e)
     (subst (λ (x : Command). Requested shown (state_of numbered_meaning s) (code_of x) (operands_of x) r) (sym f) d)

@@ -17,22 +17,29 @@ use Rattle.logs.specs.Session.{numbered_meaning}
 use Rattle.lines.specs.declared.lines.Line.{Line}
 use Rattle.lines.specs.declared.reports.Report.{Report}
 use Rattle.logs.specs.Told.{Lines}
-use Rattle.logs.specs.Input.{ReportsKind, Kind, Reports, of_kind}
+use Rattle.logs.specs.Input.{ReportsKind, KindAdmits, Reports, of_kind}
 use Rattle.logs.specs.Laws.{OpensSomeLog}
 
 -- before any call the book is the fresh one
 no_calls : {b c : Book} {answers : List Answer} {calls : List Call} → calls ≡ [] → Run b calls answers c → c ≡ b
 no_calls e over = refl
-no_calls e (next t f r) = let z : ◌≡◌ {A = ℕ} 0 1 = cc in absurd (omega arith)
+no_calls e (next t f r) = absurd cc
 
-pub logged_from : {E : Type 0} (admits : ℕ → Bool) (shown : E → Shown) (before : Parts E) (n : ℕ) (sheet : Sheet E (OneOf Janet JanetLike)) (number kind : ℕ) (log : List ℕ) (lines : List Line) (end : ℕ) →
-    before.header.variables ≡ n → vec_len before.table ≡ 64 → number ≡ kind → BeginsAsPromised admits shown numbered_meaning before (Ok sheet) →
+pub logged_from : {E : Type 0} (admits : ℕ → Bool) (shown : E → Shown) (before : Parts E) (n : ℕ)
+    (sheet : Sheet E (OneOf Janet JanetLike)) (number kind : ℕ) (log : List ℕ) (lines : List Line) (end : ℕ) →
+    before.header.variables ≡ n → vec_len before.table ≡ 64 → number ≡ kind →
+    BeginsAsPromised admits shown numbered_meaning before (Ok sheet) →
     Lines (book_of admits shown numbered_meaning sheet).n (book_of admits shown numbered_meaning sheet) log lines end →
     VariableCount n × (n ≡ n) × (number ≡ kind) × Lines n (fresh admits n 64) log lines end
 logged_from admits shown before n sheet number kind log lines end variables places same_kind opens told =
     let same : book_of admits shown numbered_meaning sheet ≡ fresh admits n 64 =
-    no_calls refl opens.1.equals_the_plain_book.reached.run ∙ ap (λ v. fresh admits v (vec_len before.table)) variables ∙ ap (fresh admits n) places in
-    (subst VariableCount variables opens.1.equals_the_plain_book.reached.variable_count, refl, same_kind, subst (λ (b : Book). Lines b.n b log lines end) same told)
+    no_calls refl opens.1.equals_the_plain_book.reached.run ∙ ap (λ v. fresh admits v (vec_len before.table))
+    variables ∙ ap (fresh admits n) places in (
+      subst VariableCount variables opens.1.equals_the_plain_book.reached.variable_count,
+      refl,
+      same_kind,
+      subst (λ (b : Book). Lines b.n b log lines end) same told,
+    )
 
 -- an input of two bytes and more: these, and the part from the third byte on
 abbrev pub from_third : List ℕ → List ℕ
@@ -50,13 +57,15 @@ plain_family f = grind arith
 pub plain_families : ◌≡◌ {A = ℕ → Bool} (λ f. leb 0 f && leb f 0) (λ f. eqb f 0)
 plain_families = fun_ext plain_family
 
-pub reported : {X : Type 0} (admits : ℕ → Bool) (input : List ℕ) (kind : ℕ) (r : Result Report X) → 2 ≤ length input → length input ≤ 65536 → get_or input 1 0 ≡ kind → Kind kind admits →
+pub reported : {X : Type 0} (admits : ℕ → Bool) (input : List ℕ) (kind : ℕ) (r : Result Report X) → 2 ≤ length input →
+    length input ≤ 65536 → get_or input 1 0 ≡ kind → KindAdmits kind admits →
     IfOk r (ReportsKind admits (get_or input 0 0) kind (from_third input)) → IfOk r (Reports input)
 reported admits input kind (Ok report) some few e k h =
     of_kind few (two_bytes input some ∙ ap (λ (x : ℕ). get_or input 0 0 ∷ x ∷ from_third input) e) k h
 reported admits input kind (Err x) some few e k h = tt
 
-pub logs_alone : {X : Type 0} (admits : ℕ → Bool) (input : List ℕ) (kind : ℕ) (r : Result Report X) → 2 ≤ length input → length input ≤ 65536 → get_or input 1 0 ≡ kind → Kind kind admits →
+pub logs_alone : {X : Type 0} (admits : ℕ → Bool) (input : List ℕ) (kind : ℕ) (r : Result Report X) →
+    2 ≤ length input → length input ≤ 65536 → get_or input 1 0 ≡ kind → KindAdmits kind admits →
     OnErr r (VariableCount (get_or input 0 0)) → OnErr r (OpensSomeLog input)
 logs_alone admits input kind (Ok report) some few e k count = tt
 logs_alone admits input kind (Err x) some few e k count = (
@@ -64,5 +73,10 @@ logs_alone admits input kind (Err x) some few e k count = (
   kind,
   admits,
   from_third input,
-  record { few = few; parts = two_bytes input some ∙ ap (λ (x : ℕ). get_or input 0 0 ∷ x ∷ from_third input) e; of_kind = k; variable_count = count },
+  record {
+    few = few;
+    parts = two_bytes input some ∙ ap (λ (x : ℕ). get_or input 0 0 ∷ x ∷ from_third input) e;
+    of_kind = k;
+    variable_count = count;
+  },
 )

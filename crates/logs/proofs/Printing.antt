@@ -25,62 +25,90 @@ use Rattle.logs.specs.Told.{forms, values_words, entry_text, Requested}
 use Rattle.logs.specs.Promised.{LineTells, PerformsAsPromised, makes_its_call, told_3, told_4}
 
 -- the line of a granted reply, whose form is that of its code
-pub granted_line : {E : Type 0} (shown : E → Shown) (place code n : ℕ) (reply : Reply E) (grant : Grant E) (told : Told) → reply ≡ Ok grant →
-    told_words told ≡ values_words (grant_form grant) n (grant_told shown grant) → ((f : Form) → form_of reply ≡ Some f → get_or forms (code - 1) done ≡ f) →
-    spaced (granted_words (record { place = place; code = code; told = told })) ≡ entry_text n (entry place code (answer_of shown reply))
+pub granted_line : {E : Type 0} (shown : E → Shown) (place code n : ℕ) (reply : Reply E) (grant : Grant E)
+    (told : Told) → reply ≡ Ok grant →
+    told_words told ≡ values_words (grant_form grant) n (grant_told shown grant) →
+    ((f : Form) → form_of reply ≡ Some f → get_or forms (code - 1) done ≡ f) →
+    spaced (granted_words (record { place = place; code = code; told = told })) ≡ entry_text n
+    (entry place code (answer_of shown reply))
 granted_line shown place code n reply grant told same words asked =
     let fits : get_or forms (code - 1) done ≡ grant_form grant = asked (grant_form grant) (ap form_of same) in
-    ap (λ (ws : List (List ℕ)). spaced (decimal place ∷ hex code ∷ codes "ok" ∷ ws)) (words ∙ sym (ap (λ (x : Form). values_words x n (grant_told shown grant)) fits)) ∙
+    ap (λ (ws : List (List ℕ)). spaced (decimal place ∷ hex code ∷ codes "ok" ∷ ws))
+    (words ∙ sym (ap (λ (x : Form). values_words x n (grant_told shown grant)) fits)) ∙
     ap (λ (a : Answer). entry_text n (entry place code a)) (sym (ap (answer_of shown) same))
 
 -- the form of a code is that of the call which it makes
-mapped_form : (make : Meaning → Call) (f : Form) → ((m : Meaning) → asked_form (make m) ≡ f) → (d : Option Meaning) (call : Call) → option_map make d ≡ Some call → f ≡ asked_form call
+mapped_form : (make : Meaning → Call) (f : Form) → ((m : Meaning) → asked_form (make m) ≡ f) →
+    (d : Option Meaning) (call : Call) → option_map make d ≡ Some call → f ≡ asked_form call
 mapped_form make f h None call e = absurd (nothing_is_some e)
 mapped_form make f h (Some m) call e = sym (h m) ∙ ap asked_form (sym (one_some e))
 
-pub form_of_code : (code : ℕ) (operands : List ℕ) (o : Option Call) (call : Call) → Calls code operands o → o ≡ Some call → get_or forms (code - 1) done ≡ asked_form call
+pub form_of_code : (code : ℕ) (operands : List ℕ) (o : Option Call) (call : Call) → Calls code operands o →
+    o ≡ Some call → get_or forms (code - 1) done ≡ asked_form call
 form_of_code code operands o call inserts e = ap asked_form (sym (one_some e))
 form_of_code code operands o call withdraws e = ap asked_form (sym (one_some e))
 form_of_code code operands o call arranges e = ap asked_form (sym (one_some e))
 form_of_code code operands o call (judges {d = d} x) e = mapped_form verdict _ (λ _. refl) d call e
-form_of_code code operands o call (weighs {d = d} {bytes = bytes} x) e = mapped_form (λ m. weigh m bytes) _ (λ _. refl) d call e
+form_of_code code operands o call (weighs {d = d} {bytes = bytes} x) e =
+    mapped_form (λ m. weigh m bytes) _ (λ _. refl) d call e
 form_of_code code operands o call (settles {d = d} x) e = mapped_form settle _ (λ _. refl) d call e
 form_of_code code operands o call locates e = ap asked_form (sym (one_some e))
 form_of_code code operands o call reopens e = ap asked_form (sym (one_some e))
 
 -- a command whose call was made
-pub called_line : {E : Type 0} (admits : ℕ → Bool) (shown : E → Shown) (before after : Sheet E (OneOf Janet JanetLike)) (n place code seen : ℕ) (operands : List ℕ)
-    (request : Request E (OneOf Janet JanetLike)) (reply : Reply E) (line : Line) → n ≡ (parts_of before).header.variables → seen ≡ code → Requested shown (state_of numbered_meaning before) code operands (Ok request) →
-    StepFollowsThePlainBook admits shown numbered_meaning before request after reply → StepEqualsThePlainBookAfterEveryCall admits shown numbered_meaning before request after reply →
-    (((f : Form) → form_of reply ≡ Some f → get_or forms (seen - 1) done ≡ f) → line_text line ≡ entry_text n (entry place seen (answer_of shown reply))) →
+pub called_line : {E : Type 0} (admits : ℕ → Bool) (shown : E → Shown) (before after : Sheet E (OneOf Janet JanetLike))
+    (n place code seen : ℕ) (operands : List ℕ)
+    (request : Request E (OneOf Janet JanetLike)) (reply : Reply E) (line : Line) →
+    n ≡ (parts_of before).header.variables → seen ≡ code → Requested shown (state_of numbered_meaning before)
+    code operands (Ok request) →
+    StepFollowsThePlainBook admits shown numbered_meaning before request after reply →
+    StepEqualsThePlainBookAfterEveryCall admits shown numbered_meaning before request after reply →
+    (((f : Form) → form_of reply ≡ Some f → get_or forms (seen - 1) done ≡ f) → line_text line ≡ entry_text n
+    (entry place seen (answer_of shown reply))) →
     PerformsAsPromised admits shown before place code operands after line
-called_line admits shown before after n place code seen operands request reply line of_sheet same decided s promised text =
+called_line admits shown before after n place code seen operands request reply line of_sheet same decided s promised
+    text =
     let call = call_of shown numbered_meaning request in
-    let form : get_or forms (code - 1) done ≡ asked_form call = form_of_code code operands (Some call) call decided.1 refl in
-    let fits : (f : Form) → form_of reply ≡ Some f → get_or forms (seen - 1) done ≡ f = λ f e. ap (λ (x : ℕ). get_or forms (x - 1) done) same ∙ form ∙ sym (s.has_its_form f e) in
+    let form : get_or forms (code - 1) done ≡ asked_form call =
+    form_of_code code operands (Some call) call decided.1 refl in
+    let fits : (f : Form) → form_of reply ≡ Some f → get_or forms (seen - 1) done ≡ f =
+    λ f e. ap (λ (x : ℕ). get_or forms (x - 1) done) same ∙ form ∙ sym (s.has_its_form f e) in
     let told : LineTells admits shown before place code (answer_of shown reply) line =
-    text fits ∙ ap (λ (x : ℕ). entry_text n (entry place x (answer_of shown reply))) same ∙ ap (λ (x : ℕ). entry_text x (entry place code (answer_of shown reply))) of_sheet in
+    text fits ∙ ap (λ (x : ℕ). entry_text n (entry place x (answer_of shown reply))) same ∙
+    ap (λ (x : ℕ). entry_text x (entry place code (answer_of shown reply))) of_sheet in
     record {
-      stands = s.stands;
-      follows_the_plain_book = λ st. (answer_of shown reply, told, called decided.0 decided.1 (s.answered st) (s.follows st));
-      after_every_command = λ h equals. (answer_of shown reply, told, makes_its_call decided.0 decided.1 (promised h equals));
+      makes_sheet = s.makes_sheet;
+      follows_the_plain_book = λ st. (
+        answer_of shown reply,
+        told,
+        called decided.0 decided.1 (s.answered st)
+            (s.follows st),
+      );
+      after_every_command = λ h equals. (
+        answer_of shown reply,
+        told,
+        makes_its_call decided.0 decided.1
+            (promised h equals),
+      );
     }
 
 -- a command that makes no call
-pub passed_line : {E : Type 0} (admits : ℕ → Bool) (shown : E → Shown) (sheet : Sheet E (OneOf Janet JanetLike)) (place code seen : ℕ) (operands : List ℕ) (why : Untaken) (line : Line) → seen ≡ code →
-    Requested shown (state_of numbered_meaning sheet) code operands (Err why) → line_text line ≡ spaced (fault_words (record { place = place; code = seen; cause = Session why })) →
+pub passed_line : {E : Type 0} (admits : ℕ → Bool) (shown : E → Shown) (sheet : Sheet E (OneOf Janet JanetLike))
+    (place code seen : ℕ) (operands : List ℕ) (why : Untaken) (line : Line) → seen ≡ code →
+    Requested shown (state_of numbered_meaning sheet) code operands (Err why) →
+    line_text line ≡ spaced (fault_words (record { place = place; code = seen; cause = Session why })) →
     PerformsAsPromised admits shown sheet place code operands sheet line
 passed_line admits shown sheet place code seen operands WrongState line same never text =
     let told = text ∙ ap (λ (x : ℕ). spaced (decimal place ∷ hex x ∷ codes "no" ∷ decimal 3 ∷ [])) same in
     record {
-      stands = λ st. st;
+      makes_sheet = λ st. st;
       follows_the_plain_book = λ _. (refused 3 [], told, untaken never);
       after_every_command = λ _ _. (refused 3 [], told, told_3 never);
     }
 passed_line admits shown sheet place code seen operands NoSuchDivision line same none text =
     let told = text ∙ ap (λ (x : ℕ). spaced (decimal place ∷ hex x ∷ codes "no" ∷ decimal 4 ∷ [])) same in
     record {
-      stands = λ st. st;
+      makes_sheet = λ st. st;
       follows_the_plain_book = λ _. (refused 4 [], told, undivided none.0 none.1);
       after_every_command = λ _ _. (refused 4 [], told, told_4 none.0 none.1);
     }

@@ -7,14 +7,14 @@ use Rattle.sheets.specs.History.{History, OpenedThenWentThrough, HoldsAfterEvery
 use Rattle.lines.specs.Words.{each, ended, spaced}
 use Rattle.logs.specs.Session.{Entry, Through, Make, Logged}
 use Rattle.logs.specs.Told.{entry_text}
-use Rattle.logs.specs.Input.{Kind, Prints}
+use Rattle.logs.specs.Input.{KindAdmits, Prints}
 
 -- an input that opens a log, on a sheet of 64 places: few enough bytes, a count of variables, a
 -- kind, which admits such families, and then the log
 pub record OpensALog (input : List ℕ) (n kind : ℕ) (admits : ℕ → Bool) (log : List ℕ) : Type 0 where
   pub few : length input ≤ 65536
   pub parts : input ≡ n ∷ kind ∷ log
-  pub of_kind : Kind kind admits
+  pub of_kind : KindAdmits kind admits
   pub variable_count : VariableCount n
 
 -- an input that opens some log

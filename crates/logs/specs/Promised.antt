@@ -7,7 +7,7 @@ use Rattle.divisions.specs.declared.JanetLike.{JanetLike}
 use Rattle.divisions.specs.declared.OneOf.{OneOf}
 use Rattle.sheets.specs.Book.{Call}
 use Rattle.sheets.specs.History.{History, and_then}
-use Rattle.sheets.specs.Read.{Stands}
+use Rattle.sheets.specs.Read.{MakesSheet}
 use Rattle.commands.specs.Log.{Reads, nothing, command, misread}
 use Rattle.runs.specs.declared.requests.Sheet.{Sheet}
 use Rattle.runs.specs.Replies.{parts_of, state_of, book_of, SheetEqualsThePlainBook, SheetIsAsPromised}
@@ -49,9 +49,10 @@ module _ {E : Type 0} (admits : ℕ → Bool) (shown : E → Shown) where
   -- too
   pub record PerformsAsPromised (before : LogSheet E) (place code : ℕ) (operands : List ℕ)
       (after : LogSheet E) (line : Line) : Type 0 where
-    pub stands : Stands admits shown (parts_of before) → Stands admits shown (parts_of after)
+    pub makes_sheet :
+        MakesSheet admits shown (parts_of before) → MakesSheet admits shown (parts_of after)
     pub follows_the_plain_book :
-        Stands admits shown (parts_of before) →
+        MakesSheet admits shown (parts_of before) →
         (told : Answer) × LineTells before place code told line ×
         Commanded (book_of admits shown numbered_meaning before) code operands told
         (book_of admits shown numbered_meaning after)

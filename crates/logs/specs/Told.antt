@@ -7,7 +7,7 @@ use Rattle.divisions.specs.declared.JanetLike.{JanetLike}
 use Rattle.divisions.specs.declared.OneOf.{OneOf}
 use Rattle.sheets.specs.Book.{Book, State}
 use Rattle.runs.specs.declared.requests.Request.{Request}
-use Rattle.runs.specs.Replies.{call_of, Form, done, place as placed, bars, limits, verdicts, settles}
+use Rattle.runs.specs.Replies.{call_of, Form, done, place as placed, bars, limits, verdicts, settlings}
 use Rattle.lines.specs.declared.faults.Untaken.{Untaken}
 use Rattle.lines.specs.declared.faults.Untaken.TheVariants.{WrongState, NoSuchDivision}
 use Rattle.lines.specs.declared.lines.Line.{Line}
@@ -28,7 +28,7 @@ Requested shown state code operands (Err NoSuchDivision) =
 
 -- the form of what each code is answered, the codes in their order
 abbrev pub forms : List Form
-forms = placed ∷ done ∷ done ∷ verdicts ∷ verdicts ∷ settles ∷ placed ∷ done ∷ []
+forms = placed ∷ done ∷ done ∷ verdicts ∷ verdicts ∷ settlings ∷ placed ∷ done ∷ []
 
 -- the words for the values of a granted command: its place; yes, or the place, variable and power
 -- of a shortfall; the count and the n entries of the ordering
@@ -38,7 +38,7 @@ values_words placed n vs = map decimal (take 1 vs)
 values_words verdicts n vs =
     let shortfall = slice_index vs 1 ∷ slice_index vs 2 ∷ slice_index vs 3 ∷ [] in
     (if slice_index vs 0 == 1 then codes "yes" ∷ [] else map decimal shortfall)
-values_words settles n vs = map decimal (take (suc n) vs)
+values_words settlings n vs = map decimal (take (suc n) vs)
 values_words bars n vs = []
 values_words limits n vs = []
 

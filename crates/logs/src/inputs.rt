@@ -6,21 +6,21 @@ ghost use Rattle.logs.specs.Input.{Reports, ReportsKind, Prints};
 ghost use Rattle.logs.specs.Laws.{OpensSomeLog, TellsTheAnswersOfThePlainBook, HoldsAfterEveryCommand, AnInputHasOneOutput};
 
 use crate::reading::lines_of;
-use elements::{Derivative, Element, PlainTerm};
+use elements::{Derivative, Kind, PlainTerm};
 use lines::reports::*;
 use orderings::orders::is_variable_count;
 use runs::stepping::begin;
 use sheets::opening::parts_for;
 use std::alloc::{AllocError, Global};
 
-// The most bytes that an input may have.
+/// The most bytes that an input may have.
 pub const MOST_BYTES: usize = 65_536;
 
 // The report on a log for a sheet of 64 places, of a kind and so many variables.
-fn report_kind<E: Element>(
+fn report_kind<E: Kind>(
     heap: Global,
     variables: u8,
-    kind: Kind,
+    kind: LogKind,
     log: &[u8],
 ) -> Result<Report, AllocError>
     requires { length log.now ≤ 65534 }
@@ -46,7 +46,8 @@ fn report_kind<E: Element>(
     }
 }
 
-// The report on an input: byte 0 is the count of variables, byte 1 the kind, and the log begins at its third byte.
+/// The report on an input: byte 0 is the count of variables, byte 1 the kind, and the log begins at
+/// its third byte.
 pub fn report(heap: Global, input: &[u8]) -> Result<Report, AllocError>
     ensures reported { IfOk result (Reports input.now) }
     ensures only_a_log_needs_memory { OnErr result (OpensSomeLog input.now) }
@@ -57,20 +58,20 @@ pub fn report(heap: Global, input: &[u8]) -> Result<Report, AllocError>
     let [variables, kind, log @ ..] = input else {
         return Ok(Report::NoLog(BadStart::CutShort));
     };
-    match Kind::try_from(*kind) {
-        Ok(Kind::PlainTerms) => {
-            let kind = Kind::PlainTerms;
+    match LogKind::try_from(*kind) {
+        Ok(LogKind::PlainTerms) => {
+            let kind = LogKind::PlainTerms;
             report_kind::<PlainTerm>(heap, *variables, kind, log)
         }
-        Ok(Kind::Derivatives) => {
-            let kind = Kind::Derivatives;
+        Ok(LogKind::Derivatives) => {
+            let kind = LogKind::Derivatives;
             report_kind::<Derivative>(heap, *variables, kind, log)
         }
         Err(bad) => Ok(Report::NoLog(bad)),
     }
 }
 
-// What is printed of an input.
+/// What is printed of an input.
 #[tactic(auto, using(crate::proofs::Printed::an_input_has_one_output, crate::proofs::Ran::holds_after_every_command))]
 pub fn output(heap: Global, input: &[u8]) -> Result<String, AllocError>
     ensures printed { IfOk result (λ text. Prints input.now (string_bytes text)) }

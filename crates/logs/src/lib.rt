@@ -1,4 +1,5 @@
-// Logs: the session that performs each command of a log on a sheet, and what is printed of an input.
+// Logs: the session that performs each command of a log on a sheet, and what is printed of an
+// input.
 #![tactic(auto)]
 
 pub mod inputs;

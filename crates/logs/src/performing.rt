@@ -10,15 +10,15 @@ ghost use Rattle.logs.specs.Promised.{PerformsAsPromised};
 use crate::sessions::request_of;
 use commands::Command;
 use divisions::{Janet, JanetLike, OneOf};
-use elements::Element;
+use elements::Kind;
 use lines::faults::*;
 use lines::lines::*;
 use runs::requests::*;
 use runs::stepping::step;
-use sheets::parts::*;
+use sheets::answers::*;
 
 // What a grant tells, on a sheet of so many variables. Bar and limit are no commands.
-fn told_of<E: Element>(variables: u8, grant: &Grant<E>) -> Told
+fn told_of<E: Kind>(variables: u8, grant: &Grant<E>) -> Told
     ensures { told_words result ≡
         values_words (grant_form grant.now) variables (grant_told E.shown grant.now) }
 {
@@ -26,21 +26,21 @@ fn told_of<E: Element>(variables: u8, grant: &Grant<E>) -> Told
         Grant::Done | Grant::Bar(_) | Grant::Limit(_) => Told::Nothing,
         Grant::Place(row) => Told::Place(*row),
         Grant::Verdict(verdict) if verdict.complete => Told::Complete,
-        Grant::Verdict(verdict) => Told::Short {
+        Grant::Verdict(verdict) => Told::Shortfall {
             place: verdict.place,
             variable: verdict.variable,
             power: verdict.power,
         },
-        Grant::Settled(served) => Told::Settled {
-            tested: served.tested,
+        Grant::Settled(found) => Told::Settled {
+            tested: found.tested,
             variables,
-            ordering: served.ordering,
+            ordering: found.ordering,
         },
     }
 }
 
-// The line of a command that was answered so, on a sheet of so many variables.
-pub(crate) fn line_of<E: Element>(place: usize, code: u8, variables: u8, reply: Reply<E>) -> Line
+/// The line of a command that was answered so, on a sheet of so many variables.
+pub(crate) fn line_of<E: Kind>(place: usize, code: u8, variables: u8, reply: Reply<E>) -> Line
     ensures { ((f : Form) → form_of reply ≡ Some f → slice_index_or forms (code - 1) done ≡ f) →
         line_text result ≡ entry_text variables (entry place code (answer_of E.shown reply)) }
 {
@@ -69,8 +69,8 @@ fn variables_of<E>(sheet: &Sheet<E, OneOf<Janet, JanetLike>>) -> u8
     }
 }
 
-// Performs a command that stands at a place, and gives its line.
-pub(crate) fn perform<E: Element>(
+/// Performs a command that stands at a place, and gives its line.
+pub(crate) fn perform<E: Kind>(
     sheet: Sheet<E, OneOf<Janet, JanetLike>>,
     place: usize,
     command: &Command,

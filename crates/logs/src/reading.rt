@@ -1,6 +1,6 @@
 // The lines of a log.
 ghost use Rattle.std.specs.Prelude.{◌≤◌, length, IfOk};
-ghost use Rattle.sheets.specs.Read.{Stands};
+ghost use Rattle.sheets.specs.Read.{MakesSheet};
 ghost use Rattle.runs.specs.Replies.{parts_of, book_of};
 ghost use Rattle.logs.specs.Session.{numbered_meaning};
 ghost use Rattle.logs.specs.Told.{Lines};
@@ -9,26 +9,26 @@ ghost use Rattle.logs.specs.Promised.{PerformsNextAsPromised};
 use crate::performing::perform;
 use commands::*;
 use divisions::{Janet, JanetLike, OneOf};
-use elements::Element;
+use elements::Kind;
 use lines::faults::*;
 use lines::lines::*;
 use runs::requests::*;
 use std::alloc::{AllocError, Global};
 
-// What the front of a log comes to.
+/// What the front of a log comes to.
 #[derive(Clone, Copy, PartialEq, Eq, Debug)]
 pub enum Step<'a> {
-    // Nothing is left.
+    /// Nothing is left.
     End,
-    // A command was performed: its line, and the rest of the log.
+    /// A command was performed: its line, and the rest of the log.
     Performed { line: Line, rest: &'a [u8] },
-    // The first byte begins no whole command: its line.
+    /// The first byte begins no whole command: its line.
     Misread(Line),
 }
 
-// Reads the command at the front of a log, which stands at a place, and performs it on the sheet.
-// It allocates nothing.
-pub fn perform_next<'a, E: Element>(
+/// Reads the command at the front of a log, which stands at a place, and performs it on the sheet.
+/// It allocates nothing.
+pub fn perform_next<'a, E: Kind>(
     sheet: Sheet<E, OneOf<Janet, JanetLike>>,
     place: usize,
     log: &'a [u8],
@@ -52,14 +52,15 @@ pub fn perform_next<'a, E: Element>(
     }
 }
 
-// Performs each command of a log on a sheet, and gives their lines, with the place after the last whole command.
-pub(crate) fn lines_of<E: Element>(
+/// Performs each command of a log on a sheet, and gives their lines, with the place after the last
+/// whole command.
+pub(crate) fn lines_of<E: Kind>(
     heap: Global,
     sheet: Sheet<E, OneOf<Janet, JanetLike>>,
     log: &[u8],
 ) -> Result<(Vec<Line>, usize), AllocError>
     requires few { length log.now ≤ 65534 }
-    requires stands { Stands E.admitted E.shown (parts_of sheet) }
+    requires makes_sheet { MakesSheet E.admitted E.shown (parts_of sheet) }
     ensures { let book = book_of E.admitted E.shown numbered_meaning sheet in
         IfOk result (λ t. Lines book.n book log.now t.0.items t.1) }
 {

@@ -9,23 +9,26 @@ ghost use Rattle.logs.specs.Told.{Requested};
 
 use commands::{Command, element_of};
 use divisions::{Janet, JanetLike, OneOf, numbered};
-use elements::Element;
+use elements::Kind;
 use lines::faults::*;
 use runs::requests::*;
 
 // The division that a division byte says.
 fn division_of(byte: &u8) -> Result<OneOf<Janet, JanetLike>, Untaken>
-    ensures { MatchResult result (λ d. IsNumbered byte.now (Some (numbered_meaning d))) (λ why. (why ≡ NoSuchDivision) × IsNumbered byte.now None) }
+    ensures { MatchResult result
+        (λ d. IsNumbered byte.now (Some (numbered_meaning d)))
+        (λ why. (why ≡ NoSuchDivision) × IsNumbered byte.now None) }
 {
     numbered(*byte).ok_or(Untaken::NoSuchDivision)
 }
 
-// The call that a command makes, or why the session does not take it.
-pub fn request_of<'a, E: Element>(
+/// The call that a command makes, or why the session does not take it.
+pub fn request_of<'a, E: Kind>(
     sheet: &Sheet<E, OneOf<Janet, JanetLike>>,
     command: &Command<'a>,
 ) -> Result<Request<'a, E, OneOf<Janet, JanetLike>>, Untaken>
-    ensures { Requested E.Element.shown (state_of numbered_meaning sheet.now) (code_of command.now) (operands_of command.now) result }
+    ensures { let state = state_of numbered_meaning sheet.now in
+        Requested E.shown state (code_of command.now) (operands_of command.now) result }
 {
     match (sheet, command) {
         (Sheet::Open(_), Command::Insert(element)) => Ok(Request::Insert(element_of(element))),

@@ -6,8 +6,8 @@ use Rattle.elements.specs.Element.{Shown}
 use Rattle.orderings.specs.Answer.{Answer}
 use Rattle.divisions.specs.Laws.{Meaning, Lawful}
 use Rattle.sheets.specs.declared.parts.Parts.{Parts}
-use Rattle.sheets.specs.declared.parts.OpenSheet.{OpenSheet}
-use Rattle.sheets.specs.declared.parts.Denied.{Denied}
+use Rattle.sheets.specs.declared.open_sheet.OpenSheet.{OpenSheet}
+use Rattle.sheets.specs.declared.answers.Denied.{Denied}
 use Rattle.sheets.specs.Book.{Call}
 use Rattle.sheets.specs.History.{LawfulCall, History}
 use Rattle.sheets.specs.Read.{OpensAsPromised}
@@ -35,21 +35,31 @@ module _ {E D : Type 0} (shown : E → Shown) (meaning : D → Meaning) (law : (
 
 module _ {E D : Type 0} (admits : ℕ → Bool) (shown : E → Shown) (meaning : D → Meaning) where
   -- a sheet that was opened
-  pub begun : (parts : Parts E) (start : OpenSheet E) → OpensAsPromised admits shown parts (Ok start) → BeginsAsPromised admits shown meaning parts (Ok (Open start))
+  pub begun : (parts : Parts E) (start : OpenSheet E) → OpensAsPromised admits shown parts (Ok start) →
+      BeginsAsPromised admits shown meaning parts (Ok (Open start))
   begun parts start opens = (opens.answered, opens.once_opened)
 
   -- a call that follows the plain book does so after every history
-  pub stepped_as_promised : ((d : D) → Lawful (meaning d)) → (before s : Sheet E D) (request : Request E D) (after : Sheet E D) (reply : Reply E) → before ≡ s →
-      StepFollowsThePlainBook admits shown meaning s request after reply → StepEqualsThePlainBookAfterEveryCall admits shown meaning before request after reply
+  pub stepped_as_promised : ((d : D) → Lawful (meaning d)) → (before s : Sheet E D) (request : Request E D)
+      (after : Sheet E D) (reply : Reply E) → before ≡ s →
+      StepFollowsThePlainBook admits shown meaning s request after reply →
+      StepEqualsThePlainBookAfterEveryCall admits shown meaning before request after reply
   stepped_as_promised law before s request after reply same step h given =
-      let equals : SheetEqualsThePlainBook admits shown meaning h s = subst (λ (x : Sheet E D). SheetEqualsThePlainBook admits shown meaning h x) same given in
-      let reached = reached_by equals.reached (book_of admits shown meaning after) (call_of shown meaning request) (answer_of shown reply) (lawful_call shown meaning law request)
-      (step.answered equals.stands) (step.follows equals.stands) in
-      record { equals_the_plain_book = record { stands = step.stands equals.stands; reached = reached }; holds_after_every_call = holds_after_every_call reached }
+      let equals : SheetEqualsThePlainBook admits shown meaning h s =
+      subst (λ (x : Sheet E D). SheetEqualsThePlainBook admits shown meaning h x) same given in
+      let reached = reached_by equals.reached (book_of admits shown meaning after) (call_of shown meaning request)
+      (answer_of shown reply) (lawful_call shown meaning law request)
+      (step.answered equals.makes_sheet) (step.follows equals.makes_sheet) in
+      record {
+        equals_the_plain_book = record { makes_sheet = step.makes_sheet equals.makes_sheet; reached = reached };
+        holds_after_every_call = holds_after_every_call reached;
+      }
 
   -- an opening that was refused: no call is performed
-  pub unopened : (parts : Parts E) (xs : List (Exchange E D)) (denied : Denied (Parts E)) (result : Result (Sheet E D) (Denied (Parts E))) →
-      BeginsAsPromised admits shown meaning parts (Err denied) → IsErrAnd result (λ d. d ≡ denied) → ReplaysAsPromised admits shown meaning parts xs xs result
+  pub unopened : (parts : Parts E) (xs : List (Exchange E D)) (denied : Denied (Parts E))
+      (result : Result (Sheet E D) (Denied (Parts E))) →
+      BeginsAsPromised admits shown meaning parts (Err denied) → IsErrAnd result (λ d. d ≡ denied) →
+      ReplaysAsPromised admits shown meaning parts xs xs result
   unopened parts xs denied (Ok sheet) begins e = absurd e
   unopened parts xs denied (Err d) begins e = rw e (begins, refl)
 
@@ -70,11 +80,20 @@ module _ {E D : Type 0} (admits : ℕ → Bool) (shown : E → Shown) (meaning :
     pub are_replied : AreReplied shown meaning (take i xs) answers
     pub is_as_promised : SheetIsAsPromised admits shown meaning (history parts (take i xs) answers) sheet
 
-  pub none_so_far : (parts : Parts E) (given : List (Exchange E D)) (sheet : Sheet E D) → BeginsAsPromised admits shown meaning parts (Ok sheet) → SoFar parts given given 0 sheet
+  pub none_so_far : (parts : Parts E) (given : List (Exchange E D)) (sheet : Sheet E D) →
+      BeginsAsPromised admits shown meaning parts (Ok sheet) → SoFar parts given given 0 sheet
   none_so_far parts given sheet begins =
-      record { grants_opening = begins.0; same_requests = refl; answers = []; are_replied = tt; is_as_promised = begins.1 }
+      record {
+        grants_opening = begins.0;
+        same_requests = refl;
+        answers = [];
+        are_replied = tt;
+        is_as_promised =
+            begins.1;
+      }
 
-  replied_push : {x : Exchange E D} {told : Answer} → IsReplied shown meaning x told → (xs : List (Exchange E D)) (ys : List Answer) →
+  replied_push : {x : Exchange E D} {told : Answer} → IsReplied shown meaning x told →
+      (xs : List (Exchange E D)) (ys : List Answer) →
       AreReplied shown meaning xs ys → AreReplied shown meaning (xs ++ x ∷ []) (ys ++ told ∷ [])
   replied_push is [] [] t = (is, tt)
   replied_push is [] (y ∷ ys) t = absurd t
@@ -82,29 +101,44 @@ module _ {E D : Type 0} (admits : ℕ → Bool) (shown : E → Shown) (meaning :
   replied_push is (x ∷ xs) (y ∷ ys) t = (t.0, replied_push is xs ys t.1)
 
   -- one call more
-  pub one_so_more : {parts : Parts E} {given xs : List (Exchange E D)} {i : ℕ} {sheet : Sheet E D} (after : Sheet E D) (d : Exchange E D) (reply : Reply E) →
-      i < length xs → SoFar parts given xs i sheet → StepEqualsThePlainBookAfterEveryCall admits shown meaning sheet (get_or xs i d).request after reply →
-      HasItsForm shown meaning (get_or xs i d).request reply → SoFar parts given (set xs i (record { request = (get_or xs i d).request; reply = Some reply })) (i + 1) after
+  pub one_so_more : {parts : Parts E} {given xs : List (Exchange E D)} {i : ℕ} {sheet : Sheet E D} (after : Sheet E D)
+      (d : Exchange E D) (reply : Reply E) →
+      i < length xs → SoFar parts given xs i sheet → StepEqualsThePlainBookAfterEveryCall admits shown meaning sheet
+      (get_or xs i d).request after reply →
+      HasItsForm shown meaning (get_or xs i d).request reply →
+      SoFar parts given (set xs i (record { request = (get_or xs i d).request; reply = Some reply })) (i + 1) after
   one_so_more {parts} {given} {xs} {i} {sheet} after d reply l so_far step form =
       let x : Exchange E D = get_or xs i d in
       let y : Exchange E D = record { request = x.request; reply = Some reply } in
       let told = answer_of shown reply in
       let taken : take (i + 1) (set xs i y) ≡ take i xs ++ y ∷ [] = take_more_set xs i y l in
-      let calls : map (λ (z : Exchange E D). call_of shown meaning z.request) (take i xs) ++ call_of shown meaning x.request ∷ [] ≡
-      map (λ (z : Exchange E D). call_of shown meaning z.request) (take i xs ++ y ∷ []) = sym (map_push (λ (z : Exchange E D). call_of shown meaning z.request) (take i xs) y) in
+      let calls : map (λ (z : Exchange E D). call_of shown meaning z.request) (take i xs) ++ call_of shown meaning
+      x.request ∷ [] ≡
+      map (λ (z : Exchange E D). call_of shown meaning z.request) (take i xs ++ y ∷ []) =
+      sym (map_push (λ (z : Exchange E D). call_of shown meaning z.request) (take i xs) y) in
       let answers = so_far.answers ++ told ∷ [] in
       record {
         grants_opening = so_far.grants_opening;
         same_requests = map-set_same (λ (z : Exchange E D). z.request) xs i y d refl ∙ so_far.same_requests;
         answers = answers;
         are_replied = subst (λ (zs : List (Exchange E D)). AreReplied shown meaning zs answers) (sym taken)
-            (replied_push (record { reply = reply; written = refl; tells = refl; has_its_form = form }) (take i xs) so_far.answers so_far.are_replied);
-        is_as_promised = subst (λ (zs : List (Exchange E D)). SheetIsAsPromised admits shown meaning (history parts zs answers) after) (sym taken)
-            (subst (λ (cs : List Call). SheetIsAsPromised admits shown meaning (record { variables = parts.header.variables; places = vec_len parts.table; calls = cs; answers = answers }) after) calls
+            (replied_push (record { reply = reply; written = refl; tells = refl; has_its_form = form }) (take i xs)
+            so_far.answers so_far.are_replied);
+        is_as_promised = subst (λ (zs : List (Exchange E D)). SheetIsAsPromised admits shown meaning
+            (history parts zs answers) after) (sym taken)
+            (subst (λ (cs : List Call). SheetIsAsPromised admits shown meaning
+            (record {
+              variables = parts.header.variables;
+              places = vec_len parts.table;
+              calls = cs;
+              answers =
+                  answers;
+            }) after) calls
             (step (history parts (take i xs) so_far.answers) so_far.is_as_promised.equals_the_plain_book));
       }
 
-  pub all_so_far : {parts : Parts E} {given xs : List (Exchange E D)} {i : ℕ} {sheet : Sheet E D} → length xs ≤ i → SoFar parts given xs i sheet →
+  pub all_so_far : {parts : Parts E} {given xs : List (Exchange E D)} {i : ℕ} {sheet : Sheet E D} → length xs ≤ i →
+      SoFar parts given xs i sheet →
       RepliesToAll admits shown meaning parts given xs sheet
   all_so_far {parts} {given} {xs} {i} {sheet} l so_far =
       let all : take i xs ≡ xs = take_all i xs l in
@@ -112,6 +146,8 @@ module _ {E D : Type 0} (admits : ℕ → Bool) (shown : E → Shown) (meaning :
         grants_opening = so_far.grants_opening;
         same_requests = so_far.same_requests;
         answers = so_far.answers;
-        are_replied = subst (λ (zs : List (Exchange E D)). AreReplied shown meaning zs so_far.answers) all so_far.are_replied;
-        is_as_promised = subst (λ (zs : List (Exchange E D)). SheetIsAsPromised admits shown meaning (history parts zs so_far.answers) sheet) all so_far.is_as_promised;
+        are_replied = subst (λ (zs : List (Exchange E D)). AreReplied shown meaning zs so_far.answers)
+            all so_far.are_replied;
+        is_as_promised = subst (λ (zs : List (Exchange E D)). SheetIsAsPromised admits shown meaning
+            (history parts zs so_far.answers) sheet) all so_far.is_as_promised;
       }

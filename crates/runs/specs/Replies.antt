@@ -5,10 +5,10 @@ use Rattle.elements.specs.Element.{Shown}
 use Rattle.orderings.specs.Answer.{Answer, granted, refused, refusal, Answers}
 use Rattle.divisions.specs.Laws.{Meaning}
 use Rattle.sheets.specs.declared.parts.Parts.{Parts}
-use Rattle.sheets.specs.declared.parts.Denied.{Denied}
+use Rattle.sheets.specs.declared.answers.Denied.{Denied}
 use Rattle.sheets.specs.Book.{Book, State, opened, Call, insert, withdraw, arrange, bar, limit, verdict, weigh, settle, locate, reopen, limit_told, Takes, Follows, Answered, open_asks}
 use Rattle.sheets.specs.History.{History, just_opened}
-use Rattle.sheets.specs.Read.{Stands, book, EqualsThePlainBook, IsAsPromised, EqualsThePlainBookAfterEveryCall, OpensAsPromised, bar_told, verdict_told, served_told, settled_state}
+use Rattle.sheets.specs.Read.{MakesSheet, book, EqualsThePlainBook, IsAsPromised, EqualsThePlainBookAfterEveryCall, OpensAsPromised, bar_told, verdict_told, serving_told, settled_state}
 use Rattle.runs.specs.declared.requests.Request.{Request}
 use Rattle.runs.specs.declared.requests.Request.TheVariants.{Insert, Withdraw, Arrange, Bar, Limit, Verdict, Weigh, Settle, Locate, Reopen}
 use Rattle.runs.specs.declared.requests.Grant.{Grant}
@@ -52,7 +52,7 @@ module _ {E : Type 0} (shown : E → Shown) where
   grant_told (TellBar b) = bar_told b
   grant_told (TellLimit l) = limit_told l
   grant_told (TellVerdict v) = verdict_told shown v
-  grant_told (Found served) = served_told served
+  grant_told (Found serving) = serving_told serving
 
   abbrev pub answer_of : Reply E → Answer
   answer_of (Ok grant) = granted (grant_told grant)
@@ -66,7 +66,7 @@ pub data Form : Type 0 where
   bars : Form
   limits : Form
   verdicts : Form
-  settles : Form
+  settlings : Form
 
 -- the form of a granted reply, and the form that a call asks for
 abbrev pub grant_form : {E : Type 0} → Grant E → Form
@@ -75,7 +75,7 @@ grant_form (Place p) = place
 grant_form (TellBar b) = bars
 grant_form (TellLimit l) = limits
 grant_form (TellVerdict v) = verdicts
-grant_form (Found served) = settles
+grant_form (Found serving) = settlings
 
 abbrev pub form_of : {E : Type 0} → Reply E → Option Form
 form_of (Ok grant) = Some (grant_form grant)
@@ -89,7 +89,7 @@ asked_form (bar p v) = bars
 asked_form (limit d p v) = limits
 asked_form (verdict d) = verdicts
 asked_form (weigh d list) = verdicts
-asked_form (settle d) = settles
+asked_form (settle d) = settlings
 asked_form (locate e) = place
 asked_form reopen = done
 
@@ -123,19 +123,20 @@ module _ {E D : Type 0} (admits : ℕ → Bool) (shown : E → Shown) (meaning :
   -- 3 where the state does not take the call, and else 8; what is refused alters nothing
   pub record StepFollowsThePlainBook (before : Sheet E D) (request : Request E D)
       (after : Sheet E D) (reply : Reply E) : Type 0 where
-    pub stands : Stands admits shown (parts_of before) → Stands admits shown (parts_of after)
+    pub makes_sheet :
+        MakesSheet admits shown (parts_of before) → MakesSheet admits shown (parts_of after)
     pub follows :
-        Stands admits shown (parts_of before) →
+        MakesSheet admits shown (parts_of before) →
         Follows (book_of before) (call_of shown meaning request) (book_of after)
     pub answered :
-        Stands admits shown (parts_of before) →
+        MakesSheet admits shown (parts_of before) →
         Answered (book_of before) (call_of shown meaning request) (answer_of shown reply)
     pub refused_by_3 :
         (Takes (state_of meaning before) (call_of shown meaning request) → ⊥) →
         answer_of shown reply ≡ refused 3 []
     pub refused_by_8 :
         Takes (state_of meaning before) (call_of shown meaning request) →
-        (Stands admits shown (parts_of before) → ⊥) →
+        (MakesSheet admits shown (parts_of before) → ⊥) →
         answer_of shown reply ≡ refused 8 []
     pub refused_alters_nothing :
         (r : ℕ) (vs : List ℕ) → answer_of shown reply ≡ refused r vs → after ≡ before

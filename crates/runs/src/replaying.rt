@@ -4,11 +4,13 @@ ghost use Rattle.runs.specs.Replies.{ReplaysAsPromised};
 use crate::requests::*;
 use crate::stepping::{begin, step};
 use divisions::Division;
-use elements::Element;
+use elements::Kind;
+use sheets::answers::*;
 use sheets::parts::*;
 
-// Opens a sheet over the parts and performs each call on it, in order, with its reply at its place.
-pub fn replay<E: Element, D: Division>(
+/// Opens a sheet over the parts and performs each call on it, in order, with its reply at its
+/// place.
+pub fn replay<E: Kind, D: Division>(
     parts: Parts<E>,
     exchanges: &mut [Exchange<E, D>],
 ) -> Result<Sheet<E, D>, Denied<Parts<E>>>

@@ -3,15 +3,17 @@ ghost use Rattle.std.specs.Prelude.{◌≡◌, None};
 ghost use Rattle.runs.specs.declared.requests.NotGranted.TheVariants.{Refused};
 
 use orderings::refusals::Refusal;
-use sheets::parts::*;
+use sheets::answers::*;
+use sheets::open_sheet::*;
+use sheets::settled_sheet::*;
 
-// A call on a sheet with what it is handed.
+/// A call on a sheet with what it is handed.
 #[derive(Clone, Copy, PartialEq, Eq, Debug)]
 pub enum Request<'a, E, D> {
     Insert(E),
     Withdraw(E),
     Arrange(&'a [u8]),
-    // a place and a variable
+    /// A place and a variable.
     Bar(usize, u8),
     Limit(D, usize, u8),
     Verdict(D),
@@ -21,7 +23,7 @@ pub enum Request<'a, E, D> {
     Reopen,
 }
 
-// What a granted call tells.
+/// What a granted call tells.
 #[derive(Clone, Copy, PartialEq, Eq, Debug)]
 pub enum Grant<E> {
     Done,
@@ -29,13 +31,13 @@ pub enum Grant<E> {
     Bar(Bar),
     Limit(Option<u16>),
     Verdict(Verdict<E>),
-    Settled(Served),
+    Settled(ServingOrdering),
 }
 
-// Why a call is not granted.
+/// Why a call is not granted.
 #[derive(Clone, Copy, PartialEq, Eq, Debug)]
 pub enum NotGranted {
-    // the sheet's state does not take the call
+    /// The sheet's state does not take the call.
     NotTaken,
     Refused(Refusal),
 }
@@ -48,10 +50,10 @@ impl From<Refusal> for NotGranted {
     }
 }
 
-// What is replied to a call.
+/// What is replied to a call.
 pub type Reply<E> = Result<Grant<E>, NotGranted>;
 
-// A call of a run, with the place for its reply, which is empty until the call is performed.
+/// A call of a run, with the place for its reply, which is empty until the call is performed.
 #[derive(Clone, Copy, PartialEq, Eq, Debug)]
 pub struct Exchange<'a, E, D> {
     pub request: Request<'a, E, D>,
@@ -70,7 +72,7 @@ impl<'a, E, D> From<Request<'a, E, D>> for Exchange<'a, E, D> {
     }
 }
 
-// A sheet, open or settled.
+/// A sheet, open or settled.
 #[derive(Drop)]
 pub enum Sheet<E, D> {
     Open(OpenSheet<E>),

@@ -6,12 +6,15 @@ ghost use Rattle.runs.specs.Replies.{StepFollowsThePlainBook, BeginsAsPromised, 
 
 use crate::requests::*;
 use divisions::Division;
-use elements::Element;
+use elements::Kind;
+use sheets::answers::*;
+use sheets::open_sheet::*;
 use sheets::opening::open;
 use sheets::parts::*;
+use sheets::settled_sheet::*;
 
 // Asks an open sheet for what leaves it open: every call that it takes but settle.
-fn ask<E: Element, D: Division>(sheet: &mut OpenSheet<E>, request: &Request<E, D>) -> Reply<E>
+fn ask<E: Kind, D: Division>(sheet: &mut OpenSheet<E>, request: &Request<E, D>) -> Reply<E>
     ensures { ((d : D) → request.now ≡ Settle d → ⊥) →
         StepFollowsThePlainBook E.admitted E.shown D.meaning
         (Open sheet.old) request.now (Open sheet.new) result }
@@ -37,7 +40,7 @@ fn ask<E: Element, D: Division>(sheet: &mut OpenSheet<E>, request: &Request<E, D
 }
 
 // A call on an open sheet.
-fn step_open<E: Element, D: Division>(
+fn step_open<E: Kind, D: Division>(
     sheet: OpenSheet<E>,
     request: &Request<E, D>,
 ) -> (Sheet<E, D>, Reply<E>)
@@ -47,7 +50,7 @@ fn step_open<E: Element, D: Division>(
     let mut sheet = sheet;
     if let Request::Settle(d) = request {
         return match sheet.settle(*d) {
-            Ok(Settling { sheet, served }) => (Sheet::Settled(sheet), Ok(Grant::Settled(served))),
+            Ok(Settling { sheet, found }) => (Sheet::Settled(sheet), Ok(Grant::Settled(found))),
             Err(Denied { back, why }) => (Sheet::Open(back), Err(NotGranted::from(why))),
         };
     }
@@ -56,7 +59,7 @@ fn step_open<E: Element, D: Division>(
 }
 
 // A call on a settled sheet.
-fn step_settled<E: Element, D: Division>(
+fn step_settled<E: Kind, D: Division>(
     sheet: SettledSheet<E, D>,
     request: &Request<E, D>,
 ) -> (Sheet<E, D>, Reply<E>)
@@ -65,7 +68,8 @@ fn step_settled<E: Element, D: Division>(
 {
     match request {
         Request::Locate(e) => {
-            // no `map` of the result: the prover does not take a case of a generic enum as its function
+            // no `map` of the result: the prover does not take a case of a generic enum as its
+            // function
             let reply = match sheet.locate(e) {
                 Ok(place) => Ok(Grant::Place(place)),
                 Err(why) => Err(NotGranted::from(why)),
@@ -87,16 +91,16 @@ fn step_settled<E: Element, D: Division>(
     }
 }
 
-// Opens a sheet over the parts.
-pub fn begin<E: Element, D: Division>(parts: Parts<E>) -> Result<Sheet<E, D>, Denied<Parts<E>>>
+/// Opens a sheet over the parts.
+pub fn begin<E: Kind, D: Division>(parts: Parts<E>) -> Result<Sheet<E, D>, Denied<Parts<E>>>
     ensures { BeginsAsPromised E.admitted E.shown D.meaning parts result }
 {
     let sheet = open(parts)?;
     Ok(Sheet::Open(sheet))
 }
 
-// Performs the call where the sheet's state takes it.
-pub fn step<E: Element, D: Division>(
+/// Performs the call where the sheet's state takes it.
+pub fn step<E: Kind, D: Division>(
     sheet: Sheet<E, D>,
     request: &Request<E, D>,
 ) -> (Sheet<E, D>, Reply<E>)

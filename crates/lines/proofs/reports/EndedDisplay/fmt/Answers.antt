@@ -8,7 +8,8 @@ use Rattle.lines.proofs.reports.EndedDisplay.fmt.Goals as goal
 pub loop-line-preserved : goal.loop-line-preserved
 loop-line-preserved g c = λ plain.
     let so_far = c.loop-line.invariant plain in
-    put_next g.W.Write.write_str_gives (λ x. ended (line_text x)) c.args.self.now.0.now c.loop-line.line-index (record { 0 = Ok (record { place = 0; code = 0; told = Nothing }) })
+    put_next g.W.Write.write_str_gives (λ x. ended (line_text x)) c.args.self.now.0.now c.loop-line.line-index
+    (record { 0 = Ok (record { place = 0; code = 0; told = Nothing }) })
     c.args.f.now c.loop-line.f c.writeln.new.self
     c.loop-line-test.true so_far (c.in_ok-writeln.ensures.writes so_far.plain (refl {a = true}))
 

@@ -15,15 +15,23 @@ loop-variable-preserved g c =
     elim c.if-variable-gt0.branch [
       | then-variable-gt0+in_ok-write w ↦
           let passes : nat_lt 0 (get_or order i 0) ≡ true = search (rules, tests) in
-          rw (w.f-is, w.separator-is) (
-            (codes ",", (refl, refl)),
-            next_between took (codes ",") decimal above_0 order i 0 c.loop-variable-test.true passes,
-            λ plain.
-                let so_far = c.loop-variable.invariant.2 plain in
-                next_written took (codes ",") decimal above_0 order i 0 c.loop-variable-test.true c.args.f.now c.loop-variable.f w.write.new.self c.loop-variable.separator.now passes c.loop-variable.invariant.1 so_far
-                (w.in_ok-write.ensures.writes so_far.plain (refl {a = true})),
-          )
+          rw (w.f-is, w.separator-is) (record {
+            text = (codes ",", (refl, refl));
+            separates = next_between took (codes ",") decimal above_0 order i 0 c.loop-variable-test.true passes;
+            writes = λ plain.
+                let so_far = c.loop-variable.invariant.writes plain in
+                next_written took (codes ",") decimal above_0 order i 0 c.loop-variable-test.true c.args.f.now
+                c.loop-variable.f w.write.new.self c.loop-variable.separator.now passes
+                c.loop-variable.invariant.separates
+                so_far
+                (w.in_ok-write.ensures.writes so_far.plain (refl {a = true}));
+          })
       | else-variable-gt0 w ↦
           let fails : nat_lt 0 (get_or order i 0) ≡ false = search (rules, tests) in
-          rw (w.f-is, w.separator-is, ← none_more took (codes ",") decimal above_0 order i 0 c.loop-variable-test.true fails) c.loop-variable.invariant
+          rw (
+            w.f-is,
+            w.separator-is,
+            ← none_more took (codes ",") decimal above_0 order i 0 c.loop-variable-test.true
+                fails,
+          ) c.loop-variable.invariant
     ]

@@ -11,5 +11,9 @@ use Rattle.lines.proofs.written.ListedDisplay.fmt.Given as goal
 abbrev pub invariant-loop-variable : goal.invariant-loop-variable
 invariant-loop-variable g l =
     let words = map decimal (filter (λ v. nat_lt 0 v) (take l.variable-index l.order)) in
-    shadow (Utf8 l.separator) × (l.separator ≡ between (codes ",") words) ×
-    (IsPlainFormatter l.initial.f → HasWritten g.W.Write.write_str_gives l.initial.f (joined (codes ",") words) l.f)
+    record {
+      text : shadow (Utf8 l.separator);
+      separates : l.separator ≡ between (codes ",") words;
+      writes : IsPlainFormatter l.initial.f →
+          HasWritten g.W.Write.write_str_gives l.initial.f (joined (codes ",") words) l.f;
+    }

@@ -20,41 +20,60 @@ loop-i-preserved g c =
     let above_0 = λ (p : ℕ × ℕ). nat_lt 0 p.1 in
     let long : length exponents ≡ 8 = omega arith in
     let within : i < length items = rw length-enumerate_from (omega arith) in
-    let item : get_or items i (0, 0) ≡ (1 + i, get_or exponents i 0) = get_or-enumerate_from 1 exponents i (0, 0) (omega arith) in
+    let item : get_or items i (0, 0) ≡ (1 + i, get_or exponents i 0) =
+    get_or-enumerate_from 1 exponents i (0, 0) (omega arith) in
     let next : i + 1 ≡ 1 + i = omega arith in
     elim c.if-exponent-gt0.branch [
       | then-exponent-gt0+in_ok-write w ↦
           let passes : nat_lt 0 (get_or exponents i 0) ≡ true = search (rules, tests) in
-          rw (w.f-is, w.separator-is) (
-            λ _. long,
-            (codes " ", (refl, refl)),
-            next_between took (codes " ") power_text above_0 items i (0, 0) within (ap above_0 item ∙ passes),
-            λ plain.
-                let so_far = c.loop-i.invariant.3 plain in
-                next_written took (codes " ") power_text above_0 items i (0, 0) within c.args.f.now c.loop-i.f w.write.new.self c.loop-i.separator.now (ap above_0 item ∙ passes) c.loop-i.invariant.2 so_far
-                (has_written_of_eq took _ _ _ _ (ap (λ t. c.loop-i.separator.now ++ power_text t) (ap (λ (k : ℕ). (k, get_or exponents i 0)) next ∙ sym item)) (w.in_ok-write.ensures.writes so_far.plain (refl {a = true}))),
-          )
+          rw (w.f-is, w.separator-is) (record {
+            eight = λ _. long;
+            text = (codes " ", (refl, refl));
+            separates = next_between took (codes " ") power_text above_0 items i (0, 0) within
+                (ap above_0 item ∙ passes);
+            writes = λ plain.
+                let so_far = c.loop-i.invariant.writes plain in
+                next_written took (codes " ") power_text above_0 items i (0, 0) within c.args.f.now c.loop-i.f
+                w.write.new.self c.loop-i.separator.now (ap above_0 item ∙ passes) c.loop-i.invariant.separates so_far
+                (has_written_of_eq took _ _ _ _ (ap (λ t. c.loop-i.separator.now ++ power_text t)
+                (ap (λ (k : ℕ). (k, get_or exponents i 0)) next ∙ sym item)) (w.in_ok-write.ensures.writes so_far.plain
+                (refl {a = true})));
+          })
       | else-exponent-gt0 w ↦
           let fails : nat_lt 0 (get_or exponents i 0) ≡ false = search (rules, tests) in
-          rw (w.f-is, w.separator-is, ← none_more took (codes " ") power_text above_0 items i (0, 0) within (ap above_0 item ∙ fails)) (λ _. long, c.loop-i.invariant.1, c.loop-i.invariant.2, c.loop-i.invariant.3)
+          rw (
+            w.f-is,
+            w.separator-is,
+            ← none_more took (codes " ") power_text above_0 items i (0, 0) within
+                (ap above_0 item ∙ fails),
+          ) (record {
+            eight = λ _. long;
+            text = c.loop-i.invariant.text;
+            separates = c.loop-i.invariant.separates;
+            writes = c.loop-i.invariant.writes;
+          })
     ]
 
 pub returns-in_ok-write-2-clause-writes : goal.returns-in_ok-write-2-clause-writes
 returns-in_ok-write-2-clause-writes g c = λ plain ok.
     let items = enumerate_from 1 c.args.self.now.0.now in
     let took = g.W.Write.write_str_gives in
-    let all : take c.loop-i.i items ≡ items = take_all c.loop-i.i items (rw length-enumerate_from (omega (arith, c.loop-i.invariant.0))) in
+    let all : take c.loop-i.i items ≡ items =
+    take_all c.loop-i.i items (rw length-enumerate_from (omega (arith, c.loop-i.invariant.eight))) in
     let words = λ (l : List (ℕ × ℕ)). map power_text (filter (λ p. nat_lt 0 p.1) l) in
-    let so_far = c.loop-i.invariant.3 plain in
+    let so_far = c.loop-i.invariant.writes plain in
     has_written_of_eq took _ _ _ _
-    (product_of_none (words (take c.loop-i.i items)) c.loop-i.separator.now c.loop-i.invariant.2 (sym c.is_empty.ensures ∙ c.if-is_empty.true) ∙ ap (λ l. product_text (words l)) all)
+    (product_of_none (words (take c.loop-i.i items)) c.loop-i.separator.now c.loop-i.invariant.separates
+    (sym c.is_empty.ensures ∙ c.if-is_empty.true) ∙ ap (λ l. product_text (words l)) all)
     (has_written_append took _ _ c.loop-i.f _ _ so_far (c.in_ok-write-2.ensures.writes so_far.plain (refl {a = true})))
 
 pub returns-else-is_empty-clause-writes : goal.returns-else-is_empty-clause-writes
 returns-else-is_empty-clause-writes g c = λ plain ok.
     let items = enumerate_from 1 c.args.self.now.0.now in
-    let all : take c.loop-i.i items ≡ items = take_all c.loop-i.i items (rw length-enumerate_from (omega (arith, c.loop-i.invariant.0))) in
+    let all : take c.loop-i.i items ≡ items =
+    take_all c.loop-i.i items (rw length-enumerate_from (omega (arith, c.loop-i.invariant.eight))) in
     let words = λ (l : List (ℕ × ℕ)). map power_text (filter (λ p. nat_lt 0 p.1) l) in
     has_written_of_eq g.W.Write.write_str_gives _ _ _ _
-    (product_of_some (words (take c.loop-i.i items)) c.loop-i.separator.now c.loop-i.invariant.2 (sym c.is_empty.ensures ∙ c.if-is_empty.false) ∙ ap (λ l. product_text (words l)) all)
-    (c.loop-i.invariant.3 plain)
+    (product_of_some (words (take c.loop-i.i items)) c.loop-i.separator.now c.loop-i.invariant.separates
+    (sym c.is_empty.ensures ∙ c.if-is_empty.false) ∙ ap (λ l. product_text (words l)) all)
+    (c.loop-i.invariant.writes plain)

@@ -12,5 +12,10 @@ use Rattle.lines.proofs.written.MonomialDisplay.fmt.Given as goal
 abbrev pub invariant-loop-i : goal.invariant-loop-i
 invariant-loop-i g l =
     let words = map power_text (filter (λ p. nat_lt 0 p.1) (take l.i (enumerate_from 1 l.exponents))) in
-    (0 < l.i → length l.exponents ≡ 8) × shadow (Utf8 l.separator) × (l.separator ≡ between (codes " ") words) ×
-    (IsPlainFormatter l.initial.f → HasWritten g.W.Write.write_str_gives l.initial.f (joined (codes " ") words) l.f)
+    record {
+      eight : 0 < l.i → length l.exponents ≡ 8;
+      text : shadow (Utf8 l.separator);
+      separates : l.separator ≡ between (codes " ") words;
+      writes : IsPlainFormatter l.initial.f →
+          HasWritten g.W.Write.write_str_gives l.initial.f (joined (codes " ") words) l.f;
+    }
