@@ -1,4 +1,5 @@
-// Tells the bars and limits of stored sheets, which no log asks for. The second implementation writes the sheets and the expected output.
+// Tells the bars and limits of stored sheets, which no log asks for. The second implementation
+// writes the sheets and the expected output.
 //
 // The file `sheets` has one sheet after the other, each six bytes and then its requests:
 //
@@ -8,8 +9,8 @@
 //     byte 3      how many order bytes it is opened with
 //     bytes 4, 5  how many requests follow, the high byte first
 //
-// A request is 19 bytes: a letter, a number, and an operand of 17 bytes, which is an element as in a log, a list with zeros after it,
-// whose length is the number, or one byte with zeros after it.
+// A request is 19 bytes: a letter, a number, and an operand of 17 bytes, which is an element as in
+// a log, a list with zeros after it, whose length is the number, or one byte with zeros after it.
 //
 //     i  insert the element
 //     w  withdraw the element

@@ -1,8 +1,9 @@
 // The form of the stored sheets.
 
+/// How many bytes a stored request has.
 pub(crate) const REQUEST_BYTES: usize = 19;
 
-// How a sheet is opened, and the requests on it.
+/// How a sheet is opened, and the requests on it.
 #[derive(Clone, Copy)]
 pub(crate) struct Stored<'a> {
     pub(crate) kind: u8,
@@ -12,7 +13,7 @@ pub(crate) struct Stored<'a> {
     pub(crate) requests: &'a [u8],
 }
 
-// A request, with the part of the file that holds its element or its list.
+/// A request, with the part of the file that holds its element or its list.
 #[derive(Clone, Copy)]
 pub(crate) enum Request<'a> {
     Insert(&'a [u8]),
@@ -25,7 +26,7 @@ pub(crate) enum Request<'a> {
     WriteHeader { variables: u8, rows: u8 },
 }
 
-// The sheet at the front, if there is a whole one, and what follows it.
+/// The sheet at the front, if there is a whole one, and what follows it.
 pub(crate) fn first_sheet(bytes: &[u8]) -> Option<(Stored<'_>, &[u8])> {
     let [kind, variables, places, order_bytes, high, low, after @ ..] = bytes else {
         return None;
@@ -42,7 +43,7 @@ pub(crate) fn first_sheet(bytes: &[u8]) -> Option<(Stored<'_>, &[u8])> {
     Some((stored, rest))
 }
 
-// The request that its bytes say, if its letter is one of a request.
+/// The request that its bytes say, if its letter is one of a request.
 pub(crate) fn request_of(bytes: &[u8]) -> Option<Request<'_>> {
     match bytes {
         [b'i', _, element @ ..] => Some(Request::Insert(element)),

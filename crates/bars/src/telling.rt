@@ -2,14 +2,17 @@
 use crate::stored::*;
 use commands::element_of;
 use divisions::{Janet, JanetLike};
-use elements::Element;
+use elements::Kind;
 use orderings::refusals::Refusal;
+use sheets::answers::*;
+use sheets::open_sheet::*;
 use sheets::opening::{open, parts_for};
 use sheets::parts::*;
 use std::alloc::{AllocError, Global};
 use std::io;
 
-pub(crate) fn tell<E: Element>(
+/// Tells what the calls on a stored sheet answer, a line for each.
+pub(crate) fn tell<E: Kind>(
     rt: &HostRuntime,
     number: usize,
     stored: &Stored<'_>,
@@ -34,14 +37,15 @@ pub(crate) fn tell<E: Element>(
 }
 
 // The parts to open the sheet over.
-fn parts_of<E: Element>(heap: Global, stored: &Stored<'_>) -> Result<Parts<E>, AllocError> {
+fn parts_of<E: Kind>(heap: Global, stored: &Stored<'_>) -> Result<Parts<E>, AllocError> {
     let mut parts = parts_for(heap, stored.variables, usize::from(stored.places))?;
     parts.order = vec![in heap; 0; usize::from(stored.order_bytes)]?;
     Ok(parts)
 }
 
-// The sheet over the parts. Where none can be opened, they are handed back, and the calls are made on them as they are.
-fn opened<E: Element>(rt: &HostRuntime, parts: Parts<E>) -> io::Result<OpenSheet<E>> {
+// The sheet over the parts. Where none can be opened, they are handed back, and the calls are made
+// on them as they are.
+fn opened<E: Kind>(rt: &HostRuntime, parts: Parts<E>) -> io::Result<OpenSheet<E>> {
     match open(parts) {
         Ok(sheet) => {
             tell_edit(rt, Ok(()))?;
@@ -54,7 +58,7 @@ fn opened<E: Element>(rt: &HostRuntime, parts: Parts<E>) -> io::Result<OpenSheet
     }
 }
 
-fn perform<E: Element>(
+fn perform<E: Kind>(
     rt: &HostRuntime,
     sheet: &mut OpenSheet<E>,
     request: Request<'_>,
@@ -109,9 +113,9 @@ fn tell_edit(rt: &HostRuntime, edit: Result<(), Refusal>) -> io::Result<()> {
     println!(rt)
 }
 
-// A line for a place: for each variable from one to another the number of the bar, with a star where one follows it,
-// and the limits by Janet and by Janet-like.
-fn tell_row<E: Element>(
+// A line for a place: for each variable from one to another the number of the bar, with a star
+// where one follows it, and the limits by Janet and by Janet-like.
+fn tell_row<E: Kind>(
     rt: &HostRuntime,
     sheet: &OpenSheet<E>,
     place: u8,

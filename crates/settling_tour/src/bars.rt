@@ -3,9 +3,11 @@ use crate::calls::*;
 use crate::page::Page;
 use elements::{Element, PlainTerm};
 use lines::written::{Listed, Monomial};
+use sheets::answers::*;
+use sheets::open_sheet::*;
 use sheets::parts::*;
 
-// For each row its bars, that of the greatest variable first.
+/// For each row its bars, that of the greatest variable first.
 pub(crate) fn tell(page: &Page, sheet: &OpenSheet<PlainTerm>) {
     let Parts {
         table,

@@ -5,18 +5,21 @@ use elements::{Element, PlainTerm, times_power};
 use lines::written::{Listed, Monomial};
 use runs::requests::*;
 use runs::stepping::step;
-use sheets::parts::*;
+use sheets::answers::*;
 
-// Either of the two divisions: the calls of one run can bring both.
+/// Either of the two divisions: the calls of one run can bring both.
 pub(crate) type Either = OneOf<Janet, JanetLike>;
 
+/// Janet division, as the tour hands it on.
 pub(crate) const JANET: Either = OneOf::First(Janet);
 
+/// Janet-like division, as the tour hands it on.
 pub(crate) const JANET_LIKE: Either = OneOf::Second(JanetLike);
 
+/// A call of the tour.
 pub(crate) type Call<'a> = Request<'a, PlainTerm, Either>;
 
-// Performs each call on the sheet, and tells it with its reply.
+/// Performs each call on the sheet, and tells it with its reply.
 pub(crate) fn perform(
     page: &Page,
     start: Sheet<PlainTerm, Either>,
@@ -32,6 +35,7 @@ pub(crate) fn perform(
     sheet
 }
 
+/// The division's name.
 pub(crate) fn name(division: &Either) -> &'static str {
     match division {
         OneOf::First(_) => "Janet",
@@ -54,12 +58,13 @@ fn tell_call(page: &Page, call: &Call<'_>) {
     }
 }
 
+/// Tells what a call is replied.
 pub(crate) fn tell_reply(page: &Page, reply: &Reply<PlainTerm>) {
     match reply {
         Ok(Grant::Done | Grant::Bar(_) | Grant::Limit(_)) => println!(page; "done."),
         Ok(Grant::Place(place)) => println!(page; "place {place}."),
         Ok(Grant::Verdict(verdict)) => tell_verdict(page, verdict),
-        Ok(Grant::Settled(served)) => tell_served(page, served),
+        Ok(Grant::Settled(found)) => tell_serving(page, found),
         Err(NotGranted::NotTaken) => {
             println!(page; "not taken, the sheet is not in the state for it.")
         }
@@ -67,8 +72,8 @@ pub(crate) fn tell_reply(page: &Page, reply: &Reply<PlainTerm>) {
     }
 }
 
-fn tell_served(page: &Page, served: &Served) {
-    let (tested, listed) = (served.tested, Listed(&served.ordering));
+fn tell_serving(page: &Page, found: &ServingOrdering) {
+    let (tested, listed) = (found.tested, Listed(&found.ordering));
     println!(page; "settled under {listed}; prefixes tested: {tested}.");
 }
 

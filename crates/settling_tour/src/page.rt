@@ -4,8 +4,9 @@ use std::cell::Cell;
 use std::fmt::Display;
 use std::io;
 
-// Prints what it is told, piece by piece, and keeps the last failure for the end: `print!` and `println!` take it as they take
-// the runtime, and give nothing. With `?` at each print, as in `tour`, every one of the many small steps would have to hand failures on.
+/// Prints what it is told, piece by piece, and keeps the last failure for the end: `print!` and
+/// `println!` take it as they take the runtime, and give nothing. With `?` at each print, as in
+/// `tour`, every one of the many small steps would have to hand failures on.
 #[derive(Drop)]
 pub(crate) struct Page {
     rt: HostRuntime,
@@ -13,6 +14,7 @@ pub(crate) struct Page {
 }
 
 impl Page {
+    /// A page on which nothing is printed yet.
     pub(crate) fn new(rt: HostRuntime) -> Page {
         Page {
             rt,
@@ -20,14 +22,17 @@ impl Page {
         }
     }
 
+    /// The last failure, if any print failed.
     pub(crate) fn end(self) -> io::Result<()> {
         self.printed.into_inner()
     }
 
+    /// Prints a text.
     pub(crate) fn print<T: Display + Drop>(&self, text: T) {
         self.keep(self.rt.print(text));
     }
 
+    /// Prints a text and ends the line.
     pub(crate) fn println<T: Display + Drop>(&self, text: T) {
         self.keep(self.rt.println(text));
     }
@@ -38,7 +43,7 @@ impl Page {
         }
     }
 
-    // A line that says why a call was refused.
+    /// A line that says why a call was refused.
     pub(crate) fn refusal(&self, refusal: Refusal) {
         let number = u8::from(refusal);
         match refusal {

@@ -1,21 +1,22 @@
-// The prefixes that are tried for an ordering of 2 variables. A prefix is the first entries of an ordering.
+// The prefixes that are tried for an ordering of 2 variables. A prefix is the first entries of an
+// ordering.
 use crate::calls::*;
 use crate::page::Page;
 use crate::{DOWN, UP};
-use barcode::Ranked;
-use cones::holding::Limited;
+use barcode::bar_code::BarCode;
 use cones::judging::limits_by;
-use cones::tables::Limits;
+use cones::limited_rows::LimitedRows;
+use cones::tables::RowLimits;
 use elements::PlainTerm;
 use lines::written::Listed;
 
-// The prefixes that are tested, each live or dead, up to the first ordering that serves.
+/// The prefixes that are tested, each live or dead, up to the first ordering that serves.
 pub(crate) fn tell(page: &Page, rows: &[PlainTerm; 3], division: &Either) {
     println!(page; "  by {}:", name(division));
     for order in [UP, DOWN] {
-        let ranked = Ranked::new(rows, &order);
-        if tell_prefix(page, division, &ranked, &order[..1])
-            && tell_prefix(page, division, &ranked, &order[..2])
+        let bar_code = BarCode::new(rows, &order);
+        if tell_prefix(page, division, &bar_code, &order[..1])
+            && tell_prefix(page, division, &bar_code, &order[..2])
         {
             break;
         }
@@ -23,10 +24,15 @@ pub(crate) fn tell(page: &Page, rows: &[PlainTerm; 3], division: &Either) {
 }
 
 // A prefix is live where by the limits of its variables alone there is no shortfall.
-fn tell_prefix(page: &Page, division: &Either, ranked: &Ranked<PlainTerm>, prefix: &[u8]) -> bool {
-    let limits = limits_of_prefix(division, ranked, prefix);
-    let limited = Limited {
-        rows: ranked.rows,
+fn tell_prefix(
+    page: &Page,
+    division: &Either,
+    bar_code: &BarCode<PlainTerm>,
+    prefix: &[u8],
+) -> bool {
+    let limits = limits_of_prefix(division, bar_code, prefix);
+    let limited = LimitedRows {
+        rows: bar_code.rows,
         limits: &limits,
         n: 2,
     };
@@ -37,8 +43,12 @@ fn tell_prefix(page: &Page, division: &Either, ranked: &Ranked<PlainTerm>, prefi
 }
 
 // The limits that the division sets for the variables of a prefix, and none for any other.
-fn limits_of_prefix(division: &Either, ranked: &Ranked<PlainTerm>, prefix: &[u8]) -> [Limits; 64] {
-    let mut table = limits_by(division, ranked, 2);
+fn limits_of_prefix(
+    division: &Either,
+    bar_code: &BarCode<PlainTerm>,
+    prefix: &[u8],
+) -> [RowLimits; 64] {
+    let mut table = limits_by(division, bar_code, 2);
     for limits in table.iter_mut() {
         for (variable, limit) in (1..9).zip(limits.iter_mut()) {
             if !prefix.contains(&variable) {

@@ -5,9 +5,11 @@ use crate::{DOWN, UP, bars, prefixes, term};
 use elements::PlainTerm;
 use runs::replaying::replay;
 use runs::requests::*;
+use sheets::answers::*;
 use sheets::opening::open;
 use sheets::parts::*;
 
+/// Tells the calls on a sheet, up to the settled one.
 pub(crate) fn tell(page: &Page, parts: Parts<PlainTerm>, set: &[PlainTerm; 3]) {
     match open(parts) {
         Ok(open) => {
@@ -90,7 +92,8 @@ fn tell_settling(page: &Page, sheet: Sheet<PlainTerm, Either>) {
     perform(page, sheet, &calls);
 }
 
-// A list of calls on a sheet that is opened for them. No ordering makes these two terms complete by Janet.
+/// A list of calls on a sheet that is opened for them. No ordering makes these two terms complete
+/// by Janet.
 pub(crate) fn tell_run(page: &Page, parts: Parts<PlainTerm>) {
     println!(page);
     println!(page;

@@ -5,6 +5,7 @@ use elements::{Element, PlainTerm, quotient, times_power};
 use lines::written::{Listed, Monomial};
 use orderings::comparing::{Comparison, compare};
 
+/// Tells the terms of the set, and what divides what.
 pub(crate) fn tell(page: &Page, set: &[PlainTerm; 3]) {
     let [a, b, c] = set.map(|term| term.exponents());
     println!(page;

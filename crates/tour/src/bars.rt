@@ -3,10 +3,12 @@ use crate::sheet::tell_refusal;
 use divisions::{Division, Janet, JanetLike};
 use elements::{Element, PlainTerm};
 use lines::written::{Listed, Monomial};
+use sheets::answers::*;
+use sheets::open_sheet::*;
 use sheets::parts::*;
 use std::io;
 
-// For each row, and each variable from the greatest down: the bar and the limits.
+/// For each row, and each variable from the greatest down: the bar and the limits.
 pub(crate) fn tell(rt: &HostRuntime, sheet: &OpenSheet<PlainTerm>) -> io::Result<()> {
     let Parts {
         table,

@@ -1,7 +1,7 @@
-// A guided tour: one task followed from beginning to end, each step told in words.
-// Two tours tell the same set, each its own way: one hands every failure on, the other keeps the last and tells runs of calls too.
-// So some of their functions are alike. A library between them would need a contract for each line of text that it prints,
-// and an edit that breaks it, and be no plainer.
+// A guided tour: one task followed from beginning to end, each step told in words. Two tours tell
+// the same set, each its own way: one hands every failure on, the other keeps the last and tells
+// runs of calls too. So some of their functions are alike. A library between them would need a
+// contract for each line of text that it prints, and an edit that breaks it, and be no plainer.
 #![tactic(auto)]
 
 mod bars;
@@ -10,7 +10,7 @@ mod sheet;
 mod terms;
 mod verdicts;
 
-use elements::{Element, PlainTerm};
+use elements::{Kind, PlainTerm};
 use std::io;
 
 // The ordering 1,2.
@@ -21,7 +21,7 @@ const DOWN: [u8; 8] = [2, 1, 0, 0, 0, 0, 0, 0];
 
 // The term with these exponents of x1 and x2.
 fn term(x1: u16, x2: u16) -> PlainTerm {
-    <PlainTerm as Element>::make(0, [x1, x2, 0, 0, 0, 0, 0, 0])
+    <PlainTerm as Kind>::make(0, [x1, x2, 0, 0, 0, 0, 0, 0])
 }
 
 fn main(rt: HostRuntime) -> io::Result<()> {

@@ -1,22 +1,24 @@
 // The search for an ordering that makes the rows complete.
 use crate::{DOWN, UP};
-use barcode::Ranked;
-use cones::holding::Limited;
+use barcode::bar_code::BarCode;
 use cones::judging::limits_by;
-use cones::tables::Limits;
+use cones::limited_rows::LimitedRows;
+use cones::tables::RowLimits;
 use divisions::{Division, Janet, JanetLike};
 use elements::PlainTerm;
 use lines::written::Listed;
 use search::searching::{Found, search};
 use std::io;
 
+/// Tells which prefixes are tried, and which ordering serves.
 pub(crate) fn tell(rt: &HostRuntime, rows: &[PlainTerm]) -> io::Result<()> {
     println!(rt; "Which ordering makes the rows complete?")?;
     tell_search(rt, rows, "Janet", &Janet)?;
     tell_search(rt, rows, "Janet-like", &JanetLike)
 }
 
-// The tested prefixes, live or dead, and what is found. A prefix is the first entries of an ordering.
+// The tested prefixes, live or dead, and what is found. A prefix is the first entries of an
+// ordering.
 fn tell_search<D: Division>(
     rt: &HostRuntime,
     rows: &[PlainTerm],
@@ -25,9 +27,9 @@ fn tell_search<D: Division>(
 ) -> io::Result<()> {
     println!(rt; "  by {name}:")?;
     for order in [UP, DOWN] {
-        let ranked = Ranked::new(rows, &order);
-        if tell_prefix(rt, &ranked, division, &order[..1])?
-            && tell_prefix(rt, &ranked, division, &order[..2])?
+        let bar_code = BarCode::new(rows, &order);
+        if tell_prefix(rt, &bar_code, division, &order[..1])?
+            && tell_prefix(rt, &bar_code, division, &order[..2])?
         {
             break;
         }
@@ -45,10 +47,10 @@ fn tell_search<D: Division>(
 // The limits that the division sets for the variables of a prefix, and none for any other.
 fn limits_of_prefix<D: Division>(
     division: &D,
-    ranked: &Ranked<PlainTerm>,
+    bar_code: &BarCode<PlainTerm>,
     prefix: &[u8],
-) -> [Limits; 64] {
-    let mut table = limits_by(division, ranked, 2);
+) -> [RowLimits; 64] {
+    let mut table = limits_by(division, bar_code, 2);
     for limits in table.iter_mut() {
         for (variable, limit) in (1..9).zip(limits.iter_mut()) {
             if !prefix.contains(&variable) {
@@ -62,13 +64,13 @@ fn limits_of_prefix<D: Division>(
 // Whether a prefix is live: with the limits of its variables alone there is no shortfall.
 fn tell_prefix<D: Division>(
     rt: &HostRuntime,
-    ranked: &Ranked<PlainTerm>,
+    bar_code: &BarCode<PlainTerm>,
     division: &D,
     prefix: &[u8],
 ) -> io::Result<bool> {
-    let limits = limits_of_prefix(division, ranked, prefix);
-    let limited = Limited {
-        rows: ranked.rows,
+    let limits = limits_of_prefix(division, bar_code, prefix);
+    let limited = LimitedRows {
+        rows: bar_code.rows,
         limits: &limits,
         n: 2,
     };

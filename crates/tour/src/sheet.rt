@@ -3,10 +3,13 @@ use crate::{DOWN, bars, verdicts};
 use elements::{Element, PlainTerm};
 use lines::written::{Listed, Monomial};
 use orderings::refusals::Refusal;
+use sheets::answers::*;
+use sheets::open_sheet::*;
 use sheets::opening::{open, parts_for};
 use sheets::parts::*;
 use std::io;
 
+/// Tells how the rows come to stand on a sheet.
 pub(crate) fn tell(rt: &HostRuntime, set: &[PlainTerm]) -> io::Result<()> {
     let parts = parts_for(rt.alloc(), 2, 4)?;
     println!(rt; "A sheet of 4 places for 2 variables:")?;
@@ -42,6 +45,7 @@ fn tell_edits(
     verdicts::tell(rt, &sheet)
 }
 
+/// Tells why a call is refused.
 pub(crate) fn tell_refusal(rt: &HostRuntime, refusal: Refusal) -> io::Result<()> {
     println!(rt; "refused by {}, {refusal}.", u8::from(refusal))
 }

@@ -5,6 +5,7 @@ use lines::written::{Listed, Monomial};
 use orderings::comparing::{Comparison, compare};
 use std::io;
 
+/// Tells the terms of the set, and what divides what.
 pub(crate) fn tell(rt: &HostRuntime, set: &[PlainTerm; 3]) -> io::Result<()> {
     let [a, b, c] = set.map(|term| term.exponents());
     println!(rt;

@@ -4,9 +4,11 @@ use crate::{DOWN, UP};
 use divisions::{Division, Janet, JanetLike};
 use elements::{Element, PlainTerm, times_power};
 use lines::written::{Listed, Monomial};
-use sheets::parts::*;
+use sheets::answers::*;
+use sheets::open_sheet::*;
 use std::io;
 
+/// Tells whether the rows are complete, by each division.
 pub(crate) fn tell(rt: &HostRuntime, sheet: &OpenSheet<PlainTerm>) -> io::Result<()> {
     println!(rt; "Are its rows complete, that is, does every multiple of a row lie in a cone?")?;
     for order in [UP, DOWN] {

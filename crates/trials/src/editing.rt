@@ -2,6 +2,7 @@
 use crate::making::*;
 use elements::{Derivative, PlainTerm};
 use orderings::refusals::Refusal;
+use sheets::open_sheet::*;
 use sheets::opening::{open, parts_for};
 use sheets::parts::*;
 use std::alloc::{AllocError, Global};

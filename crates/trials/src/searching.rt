@@ -1,11 +1,11 @@
 // The search on the worked sets.
 use crate::making::*;
 use divisions::{Division, Janet, JanetLike};
-use elements::Element;
+use elements::Kind;
 use search::searching::{Found, search};
 
 // The count of tested prefixes, and the ordering.
-fn found<E: Element, D: Division>(division: &D, rows: &[E], n: u8) -> (u32, Option<[u8; 8]>) {
+fn found<E: Kind, D: Division>(division: &D, rows: &[E], n: u8) -> (u32, Option<[u8; 8]>) {
     let Found { tested, ordering } = search(division, rows, n);
     (tested, ordering)
 }

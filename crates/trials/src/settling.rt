@@ -5,7 +5,10 @@ use elements::PlainTerm;
 use orderings::refusals::Refusal;
 use runs::replaying::replay;
 use runs::requests::*;
+use sheets::answers::*;
+use sheets::open_sheet::*;
 use sheets::parts::*;
+use sheets::settled_sheet::*;
 use std::alloc::{AllocError, Global};
 use std::process::Abort;
 use std::test::Fail;
@@ -67,10 +70,10 @@ fn three_terms_by_both_divisions(rt: HostRuntime) -> Result<(), Fail> {
     let open = OpenSheet {
         parts: parts(rt.alloc(), &rows)?,
     };
-    let Settling { sheet, served } = settled(open, Janet)?;
+    let Settling { sheet, found } = settled(open, Janet)?;
     assert_eq!(rt;
-        served,
-        Served {
+        found,
+        ServingOrdering {
             tested: 3,
             ordering: DOWN,
         }
@@ -79,10 +82,10 @@ fn three_terms_by_both_divisions(rt: HostRuntime) -> Result<(), Fail> {
     check_cones(&rt, &sheet);
     let reopened = sheet.reopen().map_err(|denied| Fail::new(denied.why))?;
     assert!(rt; holds(&reopened.parts, &rows, 3, &DOWN));
-    let Settling { sheet, served } = settled(reopened, JanetLike)?;
+    let Settling { sheet, found } = settled(reopened, JanetLike)?;
     assert_eq!(rt;
-        served,
-        Served {
+        found,
+        ServingOrdering {
             tested: 2,
             ordering: UP,
         }
@@ -131,7 +134,7 @@ fn a_run_by_both_divisions(rt: HostRuntime) -> Result<(), Fail> {
         variable: 0,
         power: 0,
     };
-    let settled = Served {
+    let settled = ServingOrdering {
         tested: 2,
         ordering: UP,
     };

@@ -1,13 +1,14 @@
 // Verdicts on the worked sets, and cones.
 use crate::making::*;
-use barcode::Ranked;
-use cones::holding::Limited;
+use barcode::bar_code::BarCode;
 use cones::judging::limits_by;
+use cones::limited_rows::LimitedRows;
 use divisions::{Janet, JanetLike};
 use elements::PlainTerm;
 use orderings::refusals::Refusal;
+use sheets::answers::*;
+use sheets::open_sheet::*;
 use sheets::opening::parts_for;
-use sheets::parts::*;
 use std::process::Abort;
 use std::test::Fail;
 
@@ -90,9 +91,9 @@ fn no_verdict_on_an_empty_sheet(rt: HostRuntime) -> Result<(), Fail> {
 #[test]
 fn cones_of_three_terms(rt: HostRuntime) {
     let rows = three();
-    let ranked = Ranked::new(&rows, &[2, 1, 0, 0, 0, 0, 0, 0]);
-    let limits = limits_by(&Janet, &ranked, 2);
-    let limited = Limited {
+    let bar_code = BarCode::new(&rows, &[2, 1, 0, 0, 0, 0, 0, 0]);
+    let limits = limits_by(&Janet, &bar_code, 2);
+    let limited = LimitedRows {
         rows: &rows,
         limits: &limits,
         n: 2,

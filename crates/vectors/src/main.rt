@@ -1,4 +1,5 @@
-// Replays the stored logs: each is four bytes that tell its length, the high one first, and then its bytes.
+// Replays the stored logs: each is four bytes that tell its length, the high one first, and then
+// its bytes.
 #![tactic(auto)]
 
 use logs::inputs::output;
