@@ -1,1 +1,2 @@
 pub mod Told
+pub mod ByNumber

@@ -1,5 +1,5 @@
 -- Janet and Janet-like division. Assumes nothing.
-use Rattle.std.specs.Prelude.{◌≡◌, ℕ, ◌<◌, List, length, Some, None, Option, ◌≢◌}
+use Rattle.std.specs.Prelude.{◌≡◌, ℕ, ◌<◌, List, length, Some, None, Option}
 use Rattle.elements.specs.Element.{Shown}
 use Rattle.orderings.specs.Rows.{row}
 use Rattle.barcode.specs.Bars.{Star}
@@ -35,9 +35,3 @@ abbrev pub JanetLikeIsToldByGaps : Type 0
 JanetLikeIsToldByGaps =
     (rows : List Shown) (order : List ℕ) (p v : ℕ) → p < length rows →
     IsGap rows order (row rows p) v (janet_like rows order p v)
-
--- what the division of a number means, if there is one: 1 is Janet, 2 is Janet-like
-pub data IsNumbered : ℕ → Option Meaning → Type 0 where
-  by_1 : {r : ℕ} → r ≡ 1 → IsNumbered r (Some janet)
-  by_2 : {r : ℕ} → r ≡ 2 → IsNumbered r (Some janet_like)
-  by_none : {r : ℕ} → (r ≢ 1) → (r ≢ 2) → IsNumbered r None

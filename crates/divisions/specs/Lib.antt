@@ -2,3 +2,4 @@ pub mod Laws
 pub mod Janet
 pub mod Either
 pub mod Lawfulness
+pub mod Numbered

@@ -6,7 +6,8 @@ ghost use Rattle.std.specs.Option.{option_map};
 ghost use Rattle.barcode.specs.BarCode.{rows_of, order_of};
 ghost use Rattle.divisions.specs.Laws.{Meaning, Lawful};
 ghost use Rattle.divisions.specs.Either.{either};
-ghost use Rattle.divisions.specs.Janet.{janet, janet_like, IsNumbered, JanetIsToldByStars, JanetLikeIsToldByGaps};
+ghost use Rattle.divisions.specs.Janet.{janet, janet_like, JanetIsToldByStars, JanetLikeIsToldByGaps};
+ghost use Rattle.divisions.specs.Numbered.{IsNumbered, numbered_meaning};
 ghost use Rattle.divisions.specs.Lawfulness.{janet_lawful, janet_like_lawful};
 ghost use Rattle.divisions.specs.declared.OneOf.TheVariants.{First, Second};
 
@@ -82,11 +83,14 @@ impl<A: Division, B: Division> Division for OneOf<A, B> {
     }
 }
 
+/// A division that has a number.
+pub type NumberedDivision = OneOf<Janet, JanetLike>;
+
 /// The division that has a number, if there is one.
 // It is no TryFrom, which would be no plainer: the theorems that this contract names would need
 // another function to carry them.
-pub fn numbered(number: u8) -> Option<OneOf<Janet, JanetLike>>
-    ensures number { IsNumbered number (option_map (either (λ _. janet) (λ _. janet_like)) result) }
+pub fn numbered(number: u8) -> Option<NumberedDivision>
+    ensures number { IsNumbered number (option_map numbered_meaning result) }
     ensures stars { JanetIsToldByStars }
     ensures gaps { JanetLikeIsToldByGaps }
 {

@@ -1,10 +1,9 @@
 -- The call that a command makes: it is lawful, and there is one. Assumes nothing.
-use Rattle.std.proofs.Common.{◌≡◌, ℕ, List, Some, None, Option, sym, refl, ap, subst, arith}
+use Rattle.std.proofs.Common.{◌≡◌, ℕ, List, Some, None, Option, IfSome, sym, refl, ap, ◌∙◌, subst}
 use Rattle.std.specs.Option.{option_map}
 use Rattle.orderings.specs.Answer.{Answer}
 use Rattle.divisions.specs.Laws.{Meaning, Lawful}
-use Rattle.divisions.specs.Janet.{janet, janet_like, IsNumbered, by_1, by_2, by_none}
-use Rattle.divisions.specs.Lawfulness.{janet_lawful, janet_like_lawful}
+use Rattle.divisions.proofs.ByNumber.{lawful_by_number}
 use Rattle.sheets.specs.Book.{Book, Call, verdict, weigh, settle, Answered, Follows}
 use Rattle.sheets.specs.History.{LawfulCall}
 use Rattle.sheets.proofs.Sound.{Sound, every_call_keeps_n, every_call_keeps_books_sound}
@@ -17,21 +16,22 @@ abbrev LawfulIfAny : Option Call → Type 0
 LawfulIfAny None = Unit {0}
 LawfulIfAny (Some call) = LawfulCall call
 
--- a division that has a number is lawful
+-- a call that brings a division which has a number is lawful
 lawful_numbered : (make : Meaning → Call) → ((m : Meaning) → Lawful m → LawfulCall (make m)) →
-    (r : ℕ) (d : Option Meaning) → IsNumbered r d → LawfulIfAny (option_map make d)
-lawful_numbered make h r d (by_1 e) = h janet janet_lawful
-lawful_numbered make h r d (by_2 e) = h janet_like janet_like_lawful
-lawful_numbered make h r d (by_none e f) = tt
+    (d : Option Meaning) → IfSome d Lawful → LawfulIfAny (option_map make d)
+lawful_numbered make h None law = tt
+lawful_numbered make h (Some m) law = h m law
 
 lawful_if_any : (code : ℕ) (operands : List ℕ) (o : Option Call) → Calls code operands o → LawfulIfAny o
 lawful_if_any code operands o inserts = tt
 lawful_if_any code operands o withdraws = tt
 lawful_if_any code operands o arranges = tt
-lawful_if_any code operands o (judges {r = r} {d = d} x) = lawful_numbered verdict (λ m law. law) r d x
+lawful_if_any code operands o (judges {r = r} {d = d} x) =
+    lawful_numbered verdict (λ m law. law) d (lawful_by_number r d x)
 lawful_if_any code operands o (weighs {r = r} {d = d} {bytes = bytes} x) =
-    lawful_numbered (λ m. weigh m bytes) (λ m law. law) r d x
-lawful_if_any code operands o (settles {r = r} {d = d} x) = lawful_numbered settle (λ m law. law) r d x
+    lawful_numbered (λ m. weigh m bytes) (λ m law. law) d (lawful_by_number r d x)
+lawful_if_any code operands o (settles {r = r} {d = d} x) =
+    lawful_numbered settle (λ m law. law) d (lawful_by_number r d x)
 lawful_if_any code operands o locates = tt
 lawful_if_any code operands o reopens = tt
 
@@ -39,29 +39,15 @@ pub a_command_calls_lawfully : (code : ℕ) (operands : List ℕ) (call : Call) 
     LawfulCall call
 a_command_calls_lawfully code operands call x = lawful_if_any code operands (Some call) x
 
--- a number is that of one division
-one_numbered : (r : ℕ) (d o : Option Meaning) → IsNumbered r d → IsNumbered r o → d ≡ o
-one_numbered r d o (by_1 e) (by_1 f) = refl
-one_numbered r d o (by_1 e) (by_2 f) = absurd (omega arith)
-one_numbered r d o (by_1 e) (by_none f g) = absurd (f e)
-one_numbered r d o (by_2 e) (by_1 f) = absurd (omega arith)
-one_numbered r d o (by_2 e) (by_2 f) = refl
-one_numbered r d o (by_2 e) (by_none f g) = absurd (g e)
-one_numbered r d o (by_none e g) (by_1 f) = absurd (e f)
-one_numbered r d o (by_none e g) (by_2 f) = absurd (g f)
-one_numbered r d o (by_none e g) (by_none f h) = refl
-
 -- a code and its operand bytes make one call
 one_call : (code : ℕ) (operands : List ℕ) (o p : Option Call) → Calls code operands o → Calls code operands p → o ≡ p
 one_call code operands o p inserts inserts = refl
 one_call code operands o p withdraws withdraws = refl
 one_call code operands o p arranges arranges = refl
-one_call code operands o p (judges {r = r} {d = d} x) (judges {d = e} y) =
-    ap (option_map verdict) (one_numbered r d e x y)
-one_call code operands o p (weighs {r = r} {d = d} {bytes = bytes} x) (weighs {d = e} y) =
-    ap (option_map (λ m. weigh m bytes)) (one_numbered r d e x y)
-one_call code operands o p (settles {r = r} {d = d} x) (settles {d = e} y) =
-    ap (option_map settle) (one_numbered r d e x y)
+one_call code operands o p (judges x) (judges y) = ap (option_map verdict) (sym x ∙ y)
+one_call code operands o p (weighs {bytes = bytes} x) (weighs y) =
+    ap (option_map (λ m. weigh m bytes)) (sym x ∙ y)
+one_call code operands o p (settles x) (settles y) = ap (option_map settle) (sym x ∙ y)
 one_call code operands o p locates locates = refl
 one_call code operands o p reopens reopens = refl
 

@@ -4,16 +4,13 @@ use Rattle.std.proofs.lemmas.List.{take_all}
 use Rattle.std.proofs.Math.Path.{fun_ext}
 use Rattle.elements.specs.Element.{Shown}
 use Rattle.orderings.specs.Order.{VariableCount}
+use Rattle.divisions.specs.Numbered.{Numbered, numbered_meaning}
 use Rattle.sheets.specs.declared.parts.Parts.{Parts}
 use Rattle.orderings.specs.Answer.{Answer}
-use Rattle.divisions.specs.declared.Janet.{Janet}
-use Rattle.divisions.specs.declared.JanetLike.{JanetLike}
-use Rattle.divisions.specs.declared.OneOf.{OneOf}
 use Rattle.sheets.specs.Book.{Book, Call, fresh}
 use Rattle.runs.specs.declared.requests.Sheet.{Sheet}
 use Rattle.sheets.specs.History.{Run, over, next}
 use Rattle.runs.specs.Replies.{book_of, BeginsAsPromised}
-use Rattle.logs.specs.Session.{numbered_meaning}
 use Rattle.lines.specs.declared.lines.Line.{Line}
 use Rattle.lines.specs.declared.reports.Report.{Report}
 use Rattle.logs.specs.Told.{Lines}
@@ -26,7 +23,7 @@ no_calls e over = refl
 no_calls e (next t f r) = absurd cc
 
 pub logged_from : {E : Type 0} (admits : ℕ → Bool) (shown : E → Shown) (before : Parts E) (n : ℕ)
-    (sheet : Sheet E (OneOf Janet JanetLike)) (number kind : ℕ) (log : List ℕ) (lines : List Line) (end : ℕ) →
+    (sheet : Sheet E Numbered) (number kind : ℕ) (log : List ℕ) (lines : List Line) (end : ℕ) →
     before.header.variables ≡ n → vec_len before.table ≡ 64 → number ≡ kind →
     BeginsAsPromised admits shown numbered_meaning before (Ok sheet) →
     Lines (book_of admits shown numbered_meaning sheet).n (book_of admits shown numbered_meaning sheet) log lines end →

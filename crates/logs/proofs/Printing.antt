@@ -4,9 +4,7 @@ use Rattle.std.specs.Option.{option_map}
 use Rattle.elements.specs.Element.{Shown}
 use Rattle.orderings.specs.Answer.{Answer, refused}
 use Rattle.divisions.specs.Laws.{Meaning}
-use Rattle.divisions.specs.declared.Janet.{Janet}
-use Rattle.divisions.specs.declared.JanetLike.{JanetLike}
-use Rattle.divisions.specs.declared.OneOf.{OneOf}
+use Rattle.divisions.specs.Numbered.{Numbered, numbered_meaning}
 use Rattle.sheets.specs.Book.{Call, verdict, weigh, settle}
 use Rattle.runs.specs.declared.requests.Grant.{Grant}
 use Rattle.runs.specs.declared.requests.Request.{Request}
@@ -20,7 +18,7 @@ use Rattle.lines.specs.declared.lines.Told.{Told}
 use Rattle.lines.specs.declared.lines.Line.{Line}
 use Rattle.lines.specs.Line.{told_words, granted_words, fault_words, line_text}
 use Rattle.lines.specs.Words.{spaced, hex}
-use Rattle.logs.specs.Session.{Calls, inserts, withdraws, arranges, judges, weighs, settles, locates, reopens, untaken, undivided, called, entry, numbered_meaning}
+use Rattle.logs.specs.Session.{Calls, inserts, withdraws, arranges, judges, weighs, settles, locates, reopens, untaken, undivided, called, entry}
 use Rattle.logs.specs.Told.{forms, values_words, entry_text, Requested}
 use Rattle.logs.specs.Promised.{LineTells, PerformsAsPromised, makes_its_call, told_3, told_4}
 
@@ -56,9 +54,9 @@ form_of_code code operands o call locates e = ap asked_form (sym (one_some e))
 form_of_code code operands o call reopens e = ap asked_form (sym (one_some e))
 
 -- a command whose call was made
-pub called_line : {E : Type 0} (admits : ℕ → Bool) (shown : E → Shown) (before after : Sheet E (OneOf Janet JanetLike))
+pub called_line : {E : Type 0} (admits : ℕ → Bool) (shown : E → Shown) (before after : Sheet E Numbered)
     (n place code seen : ℕ) (operands : List ℕ)
-    (request : Request E (OneOf Janet JanetLike)) (reply : Reply E) (line : Line) →
+    (request : Request E Numbered) (reply : Reply E) (line : Line) →
     n ≡ (parts_of before).header.variables → seen ≡ code → Requested shown (state_of numbered_meaning before)
     code operands (Ok request) →
     StepFollowsThePlainBook admits shown numbered_meaning before request after reply →
@@ -93,7 +91,7 @@ called_line admits shown before after n place code seen operands request reply l
     }
 
 -- a command that makes no call
-pub passed_line : {E : Type 0} (admits : ℕ → Bool) (shown : E → Shown) (sheet : Sheet E (OneOf Janet JanetLike))
+pub passed_line : {E : Type 0} (admits : ℕ → Bool) (shown : E → Shown) (sheet : Sheet E Numbered)
     (place code seen : ℕ) (operands : List ℕ) (why : Untaken) (line : Line) → seen ≡ code →
     Requested shown (state_of numbered_meaning sheet) code operands (Err why) →
     line_text line ≡ spaced (fault_words (record { place = place; code = seen; cause = Session why })) →

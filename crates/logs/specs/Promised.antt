@@ -2,9 +2,7 @@
 use Rattle.std.specs.Prelude.{◌≡◌, ℕ, Bool, List, [], Some, None}
 use Rattle.elements.specs.Element.{Shown}
 use Rattle.orderings.specs.Answer.{Answer, refused}
-use Rattle.divisions.specs.declared.Janet.{Janet}
-use Rattle.divisions.specs.declared.JanetLike.{JanetLike}
-use Rattle.divisions.specs.declared.OneOf.{OneOf}
+use Rattle.divisions.specs.Numbered.{Numbered, numbered_meaning}
 use Rattle.sheets.specs.Book.{Call}
 use Rattle.sheets.specs.History.{History, and_then}
 use Rattle.sheets.specs.Read.{MakesSheet}
@@ -15,12 +13,12 @@ use Rattle.lines.specs.declared.lines.Line.{Line}
 use Rattle.lines.specs.Line.{line_text}
 use Rattle.logs.specs.declared.reading.Step.{Step}
 use Rattle.logs.specs.declared.reading.Step.TheVariants.{End, Performed, Misread}
-use Rattle.logs.specs.Session.{numbered_meaning, TakesCode, Calls, Commanded, entry}
+use Rattle.logs.specs.Session.{TakesCode, Calls, Commanded, entry}
 use Rattle.logs.specs.Told.{entry_text}
 
 -- a sheet that the commands of a log are performed on
 abbrev pub LogSheet : Type 0 → Type 0
-LogSheet E = Sheet E (OneOf Janet JanetLike)
+LogSheet E = Sheet E Numbered
 
 module _ {E : Type 0} (admits : ℕ → Bool) (shown : E → Shown) where
   -- a command on a sheet with a history: it makes its call, after which the sheet is as promised;

@@ -2,18 +2,10 @@
 use Rattle.std.specs.Prelude.{◌≡◌, ℕ, ◌+◌, ◌≤◌, ◌⊎◌, List, [], ◌∷◌, ◌++◌, length, Some, None, Option}
 use Rattle.std.specs.Option.{option_map}
 use Rattle.orderings.specs.Answer.{Answer, refused}
-use Rattle.divisions.specs.declared.Janet.{Janet}
-use Rattle.divisions.specs.declared.JanetLike.{JanetLike}
-use Rattle.divisions.specs.declared.OneOf.{OneOf}
 use Rattle.divisions.specs.Laws.{Meaning}
-use Rattle.divisions.specs.Either.{either}
-use Rattle.divisions.specs.Janet.{janet, janet_like, IsNumbered}
+use Rattle.divisions.specs.Numbered.{IsNumbered}
 use Rattle.sheets.specs.Book.{Book, State, opened, settled_by, Call, insert, withdraw, arrange, verdict, weigh, settle, locate, reopen, Follows, Answered}
 use Rattle.commands.specs.Log.{Reads, command, misread, element}
-
--- what the divisions that have a number mean
-abbrev pub numbered_meaning : OneOf Janet JanetLike → Meaning
-numbered_meaning = either (λ _. janet) (λ _. janet_like)
 
 -- the codes that a state takes: 1 to 6 when it is open, 7 and 8 when it is settled
 abbrev pub TakesCode : State → ℕ → Type 0

@@ -2,9 +2,7 @@
 use Rattle.std.specs.Prelude.{◌≡◌, ℕ, suc, ◌-◌, if◌then◌else◌, List, [], ◌∷◌, map, take, Some, None, Ok, Err, codes, decimal, Result, ◌==◌, slice_index, slice_index_or}
 use Rattle.elements.specs.Element.{Shown}
 use Rattle.orderings.specs.Answer.{Answer, granted, refused}
-use Rattle.divisions.specs.declared.Janet.{Janet}
-use Rattle.divisions.specs.declared.JanetLike.{JanetLike}
-use Rattle.divisions.specs.declared.OneOf.{OneOf}
+use Rattle.divisions.specs.Numbered.{Numbered, numbered_meaning}
 use Rattle.sheets.specs.Book.{Book, State}
 use Rattle.runs.specs.declared.requests.Request.{Request}
 use Rattle.runs.specs.Replies.{call_of, Form, done, place as placed, bars, limits, verdicts, settlings}
@@ -13,13 +11,13 @@ use Rattle.lines.specs.declared.faults.Untaken.TheVariants.{WrongState, NoSuchDi
 use Rattle.lines.specs.declared.lines.Line.{Line}
 use Rattle.lines.specs.Line.{line_text}
 use Rattle.lines.specs.Words.{spaced, hex}
-use Rattle.logs.specs.Session.{numbered_meaning, TakesCode, Calls, Entry, Logged}
+use Rattle.logs.specs.Session.{TakesCode, Calls, Entry, Logged}
 
 -- what the session decides: the call of the command, or that its state does not take it, or that
 -- its division byte is none
 abbrev pub Requested :
     {E : Type 0} → (E → Shown) → State → ℕ → List ℕ →
-    Result (Request E (OneOf Janet JanetLike)) Untaken → Type 0
+    Result (Request E Numbered) Untaken → Type 0
 Requested shown state code operands (Ok request) =
     TakesCode state code × Calls code operands (Some (call_of shown numbered_meaning request))
 Requested shown state code operands (Err WrongState) = TakesCode state code → ⊥

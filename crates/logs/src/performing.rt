@@ -9,7 +9,7 @@ ghost use Rattle.logs.specs.Promised.{PerformsAsPromised};
 
 use crate::sessions::request_of;
 use commands::Command;
-use divisions::{Janet, JanetLike, OneOf};
+use divisions::NumberedDivision;
 use elements::Kind;
 use lines::faults::*;
 use lines::lines::*;
@@ -60,7 +60,7 @@ pub(crate) fn line_of<E: Kind>(place: usize, code: u8, variables: u8, reply: Rep
 }
 
 // How many variables a sheet has.
-fn variables_of<E>(sheet: &Sheet<E, OneOf<Janet, JanetLike>>) -> u8
+fn variables_of<E>(sheet: &Sheet<E, NumberedDivision>) -> u8
     ensures { result ≡ (parts_of sheet.now).header.variables }
 {
     match sheet {
@@ -71,10 +71,10 @@ fn variables_of<E>(sheet: &Sheet<E, OneOf<Janet, JanetLike>>) -> u8
 
 /// Performs a command that stands at a place, and gives its line.
 pub(crate) fn perform<E: Kind>(
-    sheet: Sheet<E, OneOf<Janet, JanetLike>>,
+    sheet: Sheet<E, NumberedDivision>,
     place: usize,
     command: &Command,
-) -> (Sheet<E, OneOf<Janet, JanetLike>>, Line)
+) -> (Sheet<E, NumberedDivision>, Line)
     ensures { PerformsAsPromised E.admitted E.shown sheet place
         (code_of command.now) (operands_of command.now) result.0 result.1 }
 {

@@ -2,13 +2,13 @@
 ghost use Rattle.std.specs.Prelude.{◌≤◌, length, IfOk};
 ghost use Rattle.sheets.specs.Read.{MakesSheet};
 ghost use Rattle.runs.specs.Replies.{parts_of, book_of};
-ghost use Rattle.logs.specs.Session.{numbered_meaning};
+ghost use Rattle.divisions.specs.Numbered.{numbered_meaning};
 ghost use Rattle.logs.specs.Told.{Lines};
 ghost use Rattle.logs.specs.Promised.{PerformsNextAsPromised};
 
 use crate::performing::perform;
 use commands::*;
-use divisions::{Janet, JanetLike, OneOf};
+use divisions::NumberedDivision;
 use elements::Kind;
 use lines::faults::*;
 use lines::lines::*;
@@ -29,10 +29,10 @@ pub enum Step<'a> {
 /// Reads the command at the front of a log, which stands at a place, and performs it on the sheet.
 /// It allocates nothing.
 pub fn perform_next<'a, E: Kind>(
-    sheet: Sheet<E, OneOf<Janet, JanetLike>>,
+    sheet: Sheet<E, NumberedDivision>,
     place: usize,
     log: &'a [u8],
-) -> (Sheet<E, OneOf<Janet, JanetLike>>, Step<'a>)
+) -> (Sheet<E, NumberedDivision>, Step<'a>)
     ensures { PerformsNextAsPromised E.admitted E.shown
         sheet place log.now result.0 result.1 }
 {
@@ -56,7 +56,7 @@ pub fn perform_next<'a, E: Kind>(
 /// whole command.
 pub(crate) fn lines_of<E: Kind>(
     heap: Global,
-    sheet: Sheet<E, OneOf<Janet, JanetLike>>,
+    sheet: Sheet<E, NumberedDivision>,
     log: &[u8],
 ) -> Result<(Vec<Line>, usize), AllocError>
     requires few { length log.now ≤ 65534 }

@@ -1,20 +1,19 @@
 // The session: its state and a command together decide what is done.
 ghost use Rattle.std.specs.Prelude.{◌≡◌, Some, None, MatchResult};
-ghost use Rattle.divisions.specs.Janet.{IsNumbered};
+ghost use Rattle.divisions.specs.Numbered.{IsNumbered, numbered_meaning};
 ghost use Rattle.commands.specs.Read.{code_of, operands_of};
 ghost use Rattle.runs.specs.Replies.{state_of};
 ghost use Rattle.lines.specs.declared.faults.Untaken.TheVariants.{NoSuchDivision};
-ghost use Rattle.logs.specs.Session.{numbered_meaning};
 ghost use Rattle.logs.specs.Told.{Requested};
 
 use commands::{Command, element_of};
-use divisions::{Janet, JanetLike, OneOf, numbered};
+use divisions::{NumberedDivision, numbered};
 use elements::Kind;
 use lines::faults::*;
 use runs::requests::*;
 
 // The division that a division byte says.
-fn division_of(byte: &u8) -> Result<OneOf<Janet, JanetLike>, Untaken>
+fn division_of(byte: &u8) -> Result<NumberedDivision, Untaken>
     ensures { MatchResult result
         (λ d. IsNumbered byte.now (Some (numbered_meaning d)))
         (λ why. (why ≡ NoSuchDivision) × IsNumbered byte.now None) }
@@ -24,9 +23,9 @@ fn division_of(byte: &u8) -> Result<OneOf<Janet, JanetLike>, Untaken>
 
 /// The call that a command makes, or why the session does not take it.
 pub fn request_of<'a, E: Kind>(
-    sheet: &Sheet<E, OneOf<Janet, JanetLike>>,
+    sheet: &Sheet<E, NumberedDivision>,
     command: &Command<'a>,
-) -> Result<Request<'a, E, OneOf<Janet, JanetLike>>, Untaken>
+) -> Result<Request<'a, E, NumberedDivision>, Untaken>
     ensures { let state = state_of numbered_meaning sheet.now in
         Requested E.shown state (code_of command.now) (operands_of command.now) result }
 {

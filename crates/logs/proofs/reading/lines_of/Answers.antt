@@ -1,6 +1,6 @@
 use Rattle.std.proofs.Common.{◌+◌, ◌-◌, vec_items, length, refl}
+use Rattle.divisions.specs.Numbered.{numbered_meaning}
 use Rattle.runs.specs.Replies.{book_of}
-use Rattle.logs.specs.Session.{numbered_meaning}
 use Rattle.logs.proofs.Going.{going_start, going_on, going_ends, going_fails, less_left, next_end, next_performed, next_misread}
 use Rattle.logs.proofs.reading.lines_of.Goals.{in-End, in-Misread+in_ok-push-in-Misread}
 use Rattle.logs.proofs.reading.lines_of.Goals as goal

@@ -1,7 +1,7 @@
 use Rattle.std.proofs.Common.{length, vec_items}
+use Rattle.divisions.specs.Numbered.{numbered_meaning}
 use Rattle.sheets.specs.Read.{MakesSheet}
 use Rattle.runs.specs.Replies.{parts_of, book_of}
-use Rattle.logs.specs.Session.{numbered_meaning}
 use Rattle.logs.proofs.Going.{Going}
 use Rattle.logs.proofs.reading.lines_of.Given as goal
 

@@ -1,0 +1,24 @@
+-- The divisions that have a number. Assumes nothing.
+use Rattle.std.specs.Prelude.{◌≡◌, ℕ, List, [], ◌∷◌, Some, None, Option, slice_index_or}
+use Rattle.divisions.specs.declared.Janet.{Janet}
+use Rattle.divisions.specs.declared.JanetLike.{JanetLike}
+use Rattle.divisions.specs.declared.OneOf.{OneOf}
+use Rattle.divisions.specs.Laws.{Meaning}
+use Rattle.divisions.specs.Either.{either}
+use Rattle.divisions.specs.Janet.{janet, janet_like}
+
+-- the divisions by their numbers, from 0 on: 1 is Janet, 2 is Janet-like
+abbrev pub by_number : List (Option Meaning)
+by_number = None ∷ Some janet ∷ Some janet_like ∷ []
+
+-- what the division of a number means, if there is one
+abbrev pub IsNumbered : ℕ → Option Meaning → Type 0
+IsNumbered r d = slice_index_or by_number r None ≡ d
+
+-- a division that has a number
+abbrev pub Numbered : Type 0
+Numbered = OneOf Janet JanetLike
+
+-- what it means
+abbrev pub numbered_meaning : Numbered → Meaning
+numbered_meaning = either (λ _. janet) (λ _. janet_like)
