@@ -9,3 +9,5 @@ pub mod Levels
 pub mod Next
 pub mod Increasing
 pub mod SortedGaps
+pub mod Tops
+pub mod Exceeding

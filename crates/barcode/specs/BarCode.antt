@@ -5,6 +5,7 @@ use Rattle.elements.specs.declared.Element as element
 use Rattle.orderings.specs.Rows.{row}
 use Rattle.barcode.specs.declared.bar_code.BarCode.{BarCode}
 use Rattle.barcode.specs.Bars.{Star, bar_number, opens_bar}
+use Rattle.barcode.specs.Exceeded.{IsExceeded, is_exceeded}
 use Rattle.barcode.specs.Gap.{gap, IsGap}
 
 module _ {E : Type 0} {e : element.Ghosts E} (b : BarCode E e) where
@@ -40,6 +41,14 @@ module _ {E : Type 0} {e : element.Ghosts E} (b : BarCode E e) where
   abbrev pub HasStar : ℕ → ℕ → Type 0
   HasStar place variable = Star rows_of order_of (row_at place) variable
 
+  -- some row of the family has a greater exponent in the variable than the row of the place
+  abbrev pub IsExceededAt : ℕ → ℕ → Type 0
+  IsExceededAt place variable = IsExceeded rows_of place variable
+
+  -- the test of this
+  abbrev pub exceeded_at : ℕ → ℕ → Bool
+  exceeded_at place variable = is_exceeded rows_of place variable
+
   -- whether no row before a place lies over its bar of a variable
   abbrev pub opens_at : ℕ → ℕ → Bool
   opens_at place variable = opens_bar rows_of order_of variable place place
@@ -63,3 +72,11 @@ module _ {E : Type 0} {e : element.Ghosts E} (b : BarCode E e) where
   -- the increasing order of the rows is not known
   abbrev pub KnowsNoSorting : Type 0
   KnowsNoSorting = IsNone b.sorting
+
+  -- the greatest exponents of the rows are known
+  abbrev pub KnowsGreatest : Type 0
+  KnowsGreatest = IsSome b.greatest
+
+  -- the greatest exponents of the rows are not known
+  abbrev pub KnowsNoGreatest : Type 0
+  KnowsNoGreatest = IsNone b.greatest

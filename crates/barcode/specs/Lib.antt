@@ -1,5 +1,6 @@
 pub mod Bars
 pub mod Gap
+pub mod Exceeded
 pub mod BarSets
 pub mod Rise
 pub mod Sorting

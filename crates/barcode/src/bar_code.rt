@@ -1,10 +1,12 @@
 // The Bar Code of rows under an ordering.
-ghost use Rattle.std.specs.Prelude.{◌≡◌, ◌<◌, ◌≤◌, ◌&&◌, map, length, None, IfSome, IsTrue, ◌↔◌};
+ghost use Rattle.std.specs.Prelude.{◌≡◌, ◌<◌, ◌≤◌, ◌&&◌, map, length, None, IfSome, IsTrue, IsFalse, ◌↔◌};
 ghost use Rattle.std.specs.Option.{ForSome};
 ghost use Rattle.barcode.specs.Bars.{lower_bar, BarNumberCountsTheDifferentLowerBars};
 ghost use Rattle.barcode.specs.BarSets.{SetOver, AreLevels};
+ghost use Rattle.barcode.specs.Exceeded.{TellExceeded};
 ghost use Rattle.barcode.specs.Sorting.{IsSorting};
 
+use crate::greatest::*;
 use crate::level::*;
 use crate::positions::*;
 use crate::rises::*;
@@ -26,9 +28,12 @@ pub struct BarCode<'a, E: Element> {
     pub(crate) bars: &'a [Level],
     /// The rows in increasing order, where that is known.
     pub(crate) sorting: Option<&'a Sorting>,
+    /// The greatest exponents of the rows, where these are of one family and that is known.
+    pub(crate) greatest: Option<[u16; 8]>,
     ghost few: { 0 < length bars.now → length rows.now ≤ 64 },
     ghost right: { AreLevels (map E.shown rows.now) order.now bars.now },
     ghost sorted: { ForSome sorting (λ s. IsSorting (map E.shown rows.now) order.now s.now) },
+    ghost tops: { ForSome greatest (TellExceeded (map E.shown rows.now)) },
 }
 
 // Written out, since neither is derived beside a ghost field.
@@ -41,7 +46,7 @@ impl<E: Element> Clone for BarCode<'_, E> {
 impl<E: Element> Copy for BarCode<'_, E> {}
 
 impl<'a, E: Element> BarCode<'a, E> {
-    ghost use Rattle.barcode.specs.BarCode.{KnowsNoBars, KnowsNoSorting};
+    ghost use Rattle.barcode.specs.BarCode.{KnowsNoBars, KnowsNoSorting, KnowsNoGreatest};
 
     /// Rows under an ordering, with nothing known beforehand.
     pub fn new(rows: &'a [E], order: &'a [u8]) -> Self
@@ -49,6 +54,7 @@ impl<'a, E: Element> BarCode<'a, E> {
         ensures order { result.order.now ≡ order.now }
         ensures bars { KnowsNoBars result }
         ensures sorting { KnowsNoSorting result }
+        ensures greatest { KnowsNoGreatest result }
     {
         let bars: &[Level] = &[];
         BarCode {
@@ -56,12 +62,13 @@ impl<'a, E: Element> BarCode<'a, E> {
             order,
             bars,
             sorting: None,
+            greatest: None,
         }
     }
 }
 
 impl<E: Element> BarCode<'_, E> {
-    ghost use Rattle.barcode.specs.BarCode.{rows_of, order_of, HasRow, HasNoRow, row_at, gap_at, IsGapOf, HasStar, opens_at, number_at};
+    ghost use Rattle.barcode.specs.BarCode.{rows_of, order_of, HasRow, HasNoRow, row_at, gap_at, IsGapOf, HasStar, exceeded_at, IsExceededAt, opens_at, number_at};
 
     // The places of the rows that agree with the row of a place in every variable listed before a
     // position, where they are kept.
@@ -117,6 +124,24 @@ impl<E: Element> BarCode<'_, E> {
             return none_rises(self.rows, u, over, *variable);
         }
         !self.rows.iter().any(|w| rises(u, w, order, here))
+    }
+
+    /// Whether some row of the same family has a greater exponent in a variable than the row of a
+    /// place. None has at a place without a row.
+    #[inline(always)]
+    pub fn is_exceeded(&self, place: usize, variable: u8) -> bool
+        ensures value { result ≡ exceeded_at self.now place variable }
+        ensures row { HasRow self.now place →
+            (IsTrue result ↔ IsExceededAt self.now place variable) }
+        ensures no_row { HasNoRow self.now place → IsFalse result }
+    {
+        let Some(given) = self.rows.get(place) else {
+            return false;
+        };
+        if let Some(greatest) = self.greatest {
+            return given.exponent(variable) < exponent_in(greatest, variable);
+        }
+        self.rows.iter().any(|w| exceeds(w, given, variable))
     }
 
     // Whether no row before a place lies over the same bar of a variable.

@@ -1,9 +1,12 @@
 // The bars of the first variables, kept for many questions.
 ghost use Rattle.std.specs.Prelude.{◌≡◌, ℕ, ◌+◌, ◌<◌, ◌≤◌, slice_set, map, length};
 ghost use Rattle.barcode.specs.BarCode.{KnowsBars};
+ghost use Rattle.std.specs.Option.{ForSome};
 ghost use Rattle.barcode.specs.BarSets.{SetsOver, over_first};
+ghost use Rattle.barcode.specs.Exceeded.{TellExceeded};
 
 use crate::bar_code::*;
+use crate::greatest::*;
 use crate::level::*;
 use crate::positions::*;
 use elements::Element;
@@ -18,9 +21,11 @@ pub struct Bars<'a, E: Element> {
     listed: [u8; 8],
     known: usize,
     over: [Level; 9],
+    greatest: Option<[u16; 8]>,
     ghost most: { known ≤ 8 },
     ghost right: { length rows.now ≤ 64 → (k : ℕ) → k ≤ known →
         SetsOver (map E.shown rows.now) listed k (over_first over k) },
+    ghost tops: { ForSome greatest (TellExceeded (map E.shown rows.now)) },
 }
 
 impl<'a, E: Element> Bars<'a, E> {
@@ -41,6 +46,7 @@ impl<'a, E: Element> Bars<'a, E> {
             listed: [0; 8],
             known: 0,
             over,
+            greatest: greatest_exponents(rows),
         }
     }
 
@@ -76,7 +82,8 @@ impl<'a, E: Element> Bars<'a, E> {
         }
     }
 
-    /// The rows under an ordering, with what is known of the bars of its first variables.
+    /// The rows under an ordering, with what is known of the bars of its first variables, and with
+    /// their greatest exponents where they are of one family.
     pub fn bar_code<'b>(&'b self, order: &'b [u8]) -> BarCode<'b, E>
         ensures rows { result.rows.now ≡ self.now.rows.now }
         ensures order { result.order.now ≡ order.now }
@@ -92,6 +99,7 @@ impl<'a, E: Element> Bars<'a, E> {
             order,
             bars: &self.over[..=front],
             sorting: None,
+            greatest: self.greatest,
         }
     }
 }

@@ -3,6 +3,7 @@
 
 pub mod bar_code;
 pub mod bars;
+mod greatest;
 mod level;
 pub mod positions;
 mod rises;

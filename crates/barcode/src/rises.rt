@@ -4,6 +4,7 @@ ghost use Rattle.elements.specs.Element.{exponent};
 ghost use Rattle.orderings.specs.Order.{PartAt};
 ghost use Rattle.barcode.specs.Bars.{position as position_in, SameBar, LowerBar};
 ghost use Rattle.barcode.specs.BarSets.{Has, IsWithin};
+ghost use Rattle.barcode.specs.Exceeded.{exceeds as exceeds_in};
 ghost use Rattle.barcode.specs.Gap.{rise as rise_of, lesser as lesser_of};
 ghost use Rattle.barcode.specs.Rise.{IsRise, IsLeastRise, NoneRises};
 
@@ -17,6 +18,14 @@ pub(crate) fn same_family<E: Element>(u: &E, w: &E) -> bool
     ensures { IsTrue result ↔ ((E.shown u.now).family ≡ (E.shown w.now).family) }
 {
     u.family() == w.family()
+}
+
+/// Whether `w` is of the family of `u` and has a greater exponent in a variable.
+pub(crate) fn exceeds<E: Element>(w: &E, u: &E, variable: u8) -> bool
+    ensures { result ≡ exceeds_in variable (E.shown w.now) (E.shown u.now) }
+{
+    // the exponents are read first, since they end most walks through the rows
+    u.exponent(variable) < w.exponent(variable) && w.family() == u.family()
 }
 
 /// Whether `w` is above `u` in the variable at a position of a list, agrees with it in those listed

@@ -11,4 +11,5 @@ invariant_of-self g c =
       right = λ few. rw (set-get_or self.over self.known (record { sets = [] }))
           (levels_more (map g.E.Element.shown self.rows.now) self.listed self.over self.known c.args.variable
           c.split.result (omega arith) (omega arith) (self.right few) (λ order. c.split.ensures order self.known));
+      tops = self.tops;
     }

@@ -11,4 +11,5 @@ invariant_of-result g c =
             | then-rows-le64 w ↦ rw (w.over-is, sym here) (w.families.ensures (replicate 8 0))
             | else-rows-le64 w ↦ absurd (omega (arith, w.if-rows-le64.false))
           ]);
+      tops = λ x e. rw e at c.greatest_exponents.ensures.greatest;
     }
