@@ -1,5 +1,5 @@
 -- Janet and Janet-like division. Assumes nothing.
-use Rattle.std.specs.Prelude.{◌≡◌, ℕ, ◌<◌, List, length, Some, None, Option}
+use Rattle.std.specs.Prelude.{ℕ, ◌<◌, List, length, Some, None, Option}
 use Rattle.elements.specs.Element.{Shown}
 use Rattle.orderings.specs.Rows.{row}
 use Rattle.barcode.specs.Bars.{Star}

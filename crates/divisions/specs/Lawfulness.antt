@@ -1,6 +1,6 @@
--- Janet and Janet-like division keep the laws. The proofs stand here, and not in proofs/, since the
--- impls name them. Assumes nothing.
-use Rattle.std.specs.Prelude.{◌≡◌, ℕ, suc, ◌+◌, ◌-◌, ◌<◌, ◌≤◌, Bool, if◌then◌else◌, ◌&&◌, List, map, length, take, Some, None, Option, ◌==◌, nat_lt, slice_index, refl}
+-- Janet, Janet-like and Thomas division keep the laws. The proofs stand here, and not in proofs/,
+-- since the impls name them. Assumes nothing.
+use Rattle.std.specs.Prelude.{◌≡◌, ℕ, suc, ◌+◌, ◌-◌, ◌<◌, ◌≤◌, Bool, true, false, if◌then◌else◌, ◌&&◌, List, map, length, take, Some, None, Option, ◌==◌, nat_lt, slice_index, refl}
 use Rattle.std.proofs.Common.{sym, ap, subst, ◌∙◌, inl, inr, arith}
 use Rattle.std.proofs.lemmas.Bool.{cases_lt}
 use Rattle.std.proofs.lemmas.Option.{none-some}
@@ -10,11 +10,14 @@ use Rattle.orderings.specs.Order.{at, IsOrdering, PartAt}
 use Rattle.orderings.specs.Rows.{row}
 use Rattle.orderings.proofs.Positions.{listed, few}
 use Rattle.barcode.specs.Bars.{position, agrees}
+use Rattle.barcode.specs.Exceeded.{Exceeds, is_exceeded}
 use Rattle.barcode.specs.Gap.{least, gap, IsGap}
 use Rattle.barcode.proofs.Listed.{position_at}
+use Rattle.barcode.proofs.Exceeding.{exceeded_decides}
 use Rattle.barcode.proofs.Gaps.{gap_is}
 use Rattle.divisions.specs.Laws.{Ranged, Separates, FromTheTop, Lawful}
 use Rattle.divisions.specs.Janet.{one, janet, janet_like}
+use Rattle.divisions.specs.Thomas.{thomas}
 
 -- a position at which rows part is one of the ordering's
 parted : (n : ℕ) (order : List ℕ) → IsOrdering n order →
@@ -97,6 +100,19 @@ one_some : (o : Option ℕ) (d : ℕ) → one o ≡ Some d → d ≡ 1
 one_some None d e = absurd (none-some d e)
 one_some (Some x) d e = cc
 
+-- a row that exceeds another gives it limit 1
+exceeded_limit : (rows : List Shown) (order : List ℕ) (p q v : ℕ) →
+    p < length rows → q < length rows → Exceeds v (row rows q) (row rows p) →
+    thomas rows order p v ≡ Some 1
+exceeded_limit rows order p q v hp hq x =
+    let is : is_exceeded rows p v ≡ true = (exceeded_decides rows p v hp).1 (q, hq, x) in
+    rw is refl
+
+-- Thomas' limits are 1
+if_some : (b : Bool) (d : ℕ) → ◌≡◌ {A = Option ℕ} (if b then Some 1 else None) (Some d) → d ≡ 1
+if_some true d e = cc
+if_some false d e = absurd (none-some d e)
+
 pub janet_like_lawful : Lawful janet_like
 janet_like_lawful = record {
   range = gap_ranged;
@@ -114,4 +130,17 @@ janet_lawful = record {
       (1, ap one e, omega (arith, x.smaller));
   from_the_top = λ n rows order other s t k p l hp same.
       ap one (gap_from_the_top n rows order other s t k p l hp same);
+}
+
+pub thomas_lawful : Lawful thomas
+thomas_lawful = record {
+  range = λ n rows order s p v d hp low high e.
+      let is : d ≡ 1 = if_some (is_exceeded rows p v) d e in
+      (omega arith, omega arith);
+  separation = λ n rows order s p q k hp hq x.
+      let v = at order k in
+      let exceeds : Exceeds v (row rows q) (row rows p) =
+      record { family = sym x.family; greater = x.smaller } in
+      (1, exceeded_limit rows order p q v hp hq exceeds, omega (arith, x.smaller));
+  from_the_top = λ n rows order other s t k p l hp same. refl;
 }

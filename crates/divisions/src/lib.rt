@@ -7,8 +7,9 @@ ghost use Rattle.barcode.specs.BarCode.{rows_of, order_of};
 ghost use Rattle.divisions.specs.Laws.{Meaning, Lawful};
 ghost use Rattle.divisions.specs.Either.{either};
 ghost use Rattle.divisions.specs.Janet.{janet, janet_like, JanetIsToldByStars, JanetLikeIsToldByGaps};
+ghost use Rattle.divisions.specs.Thomas.{thomas, ThomasIsToldByGreaterRows};
 ghost use Rattle.divisions.specs.Numbered.{IsNumbered, numbered_meaning};
-ghost use Rattle.divisions.specs.Lawfulness.{janet_lawful, janet_like_lawful};
+ghost use Rattle.divisions.specs.Lawfulness.{janet_lawful, janet_like_lawful, thomas_lawful};
 ghost use Rattle.divisions.specs.declared.OneOf.TheVariants.{First, Second};
 
 use barcode::bar_code::BarCode;
@@ -63,6 +64,22 @@ impl Division for JanetLike {
     }
 }
 
+/// Thomas division, of number 3: limit 1 where a row of the same family has a greater exponent, no
+/// limit elsewhere. The ordering plays no part.
+#[derive(Clone, Copy, PartialEq, Eq, Debug)]
+pub struct Thomas;
+
+impl Division for Thomas {
+    ghost meaning = { λ _. thomas };
+
+    ghost lawful = { λ d. thomas_lawful };
+
+    #[inline(always)]
+    fn limit<E: Element>(&self, bar_code: &BarCode<E>, place: usize, variable: u8) -> Option<u16> {
+        bar_code.is_exceeded(place, variable).then_some(1)
+    }
+}
+
 /// One division or another, where which one is known only when the program runs.
 #[derive(Clone, Copy, PartialEq, Eq, Debug)]
 pub enum OneOf<A, B> {
@@ -84,7 +101,7 @@ impl<A: Division, B: Division> Division for OneOf<A, B> {
 }
 
 /// A division that has a number.
-pub type NumberedDivision = OneOf<Janet, JanetLike>;
+pub type NumberedDivision = OneOf<Janet, OneOf<JanetLike, Thomas>>;
 
 /// The division that has a number, if there is one.
 // It is no TryFrom, which would be no plainer: the theorems that this contract names would need
@@ -93,10 +110,12 @@ pub fn numbered(number: u8) -> Option<NumberedDivision>
     ensures number { IsNumbered number (option_map numbered_meaning result) }
     ensures stars { JanetIsToldByStars }
     ensures gaps { JanetLikeIsToldByGaps }
+    ensures greater_rows { ThomasIsToldByGreaterRows }
 {
     match number {
         1 => Some(OneOf::First(Janet)),
-        2 => Some(OneOf::Second(JanetLike)),
+        2 => Some(OneOf::Second(OneOf::First(JanetLike))),
+        3 => Some(OneOf::Second(OneOf::Second(Thomas))),
         _ => None,
     }
 }
