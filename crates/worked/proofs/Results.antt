@@ -1,18 +1,19 @@
--- The nine results, by computing the definitions. Assumes nothing.
+-- The ten results, by computing the definitions. Assumes nothing.
 use Rattle.std.proofs.Common.{◌≡◌, ℕ, zero, suc, ◌<◌, ◌≤◌, Bool, ◌&&◌, eqb, leb, List, [], ◌∷◌, length, Some, None, Option, refl, ap, ◌∙◌, subst, arith}
 use Rattle.std.proofs.lemmas.Option.{none-some}
 use Rattle.std.specs.Option.{option_map}
 use Rattle.elements.specs.Element.{Shown, entry, product, power, quotient, times}
 use Rattle.orderings.specs.Rows.{row}
 use Rattle.divisions.specs.Janet.{janet, janet_like}
-use Rattle.divisions.specs.Lawfulness.{janet_like_lawful}
+use Rattle.divisions.specs.Thomas.{thomas}
+use Rattle.divisions.specs.Lawfulness.{janet_like_lawful, thomas_lawful}
 use Rattle.cones.specs.Cones.{InCone, Complete, IsShortfall, IsFirstShortfall}
 use Rattle.search.specs.Prefixes.{prefixes, Prefix, padded}
 use Rattle.search.specs.Walks.{first_live, tested_to}
 use Rattle.search.specs.Liveness.{RowsOfSheet, prefix_limits, Dead, answer, tested}
 use Rattle.search.proofs.Deadness.{live_is_told_by_its_test, full_prefix_is_live_exactly_when_complete}
 use Rattle.search.proofs.Testing.{decides_divides}
-use Rattle.worked.specs.Sets.{plain, set_a, set_b, set_d, set_e, derivatives_e, falling, SearchAnswers, TheNineWorkedResults}
+use Rattle.worked.specs.Sets.{plain, set_a, set_b, set_c, set_d, set_e, derivatives_e, falling, SearchAnswers, TheTenWorkedResults}
 use Rattle.worked.proofs.Fitting.{rows_from}
 
 one_is : (l : ℕ) → ◌≡◌ {A = Option ℕ} (Some 1) (Some l) → 1 ≡ l
@@ -30,6 +31,9 @@ sheet_a = rows_from of_plain 3 set_a refl
 
 sheet_b : RowsOfSheet 2 set_b
 sheet_b = rows_from of_plain 2 set_b refl
+
+sheet_c : RowsOfSheet 2 set_c
+sheet_c = rows_from of_plain 2 set_c refl
 
 sheet_d : RowsOfSheet 3 set_d
 sheet_d = rows_from of_plain 3 set_d refl
@@ -134,8 +138,25 @@ short_d = record {
         short.outside 1 (subst Holding (one_is l short.limit) cone)
     before (suc (suc (suc x))) l h short = omega arith
 
-pub nine : TheNineWorkedResults
-nine = record {
+prefix_12 : Prefix 2 (1 ∷ 2 ∷ [])
+prefix_12 = record {
+  some = omega arith;
+  most = omega arith;
+  entries = record {
+    range = ((omega arith, omega arith), ((omega arith, omega arith), tt));
+    apart = (refl, (refl, tt));
+  };
+}
+
+-- all of 1,2 is live by Thomas, whose limits are the same under every ordering
+complete_c : (order : List ℕ) → Complete 2 set_c (thomas set_c order)
+complete_c order =
+    let full = 1 ∷ 2 ∷ [] in
+    (full_prefix_is_live_exactly_when_complete thomas thomas_lawful 2 set_c sheet_c full prefix_12 refl).0
+    ((live_is_told_by_its_test thomas 2 set_c sheet_c full prefix_12).0 refl)
+
+pub ten : TheTenWorkedResults
+ten = record {
   janet_settles_a = settles_a;
   prefix_3_of_a_is_dead = dead_a;
   janet_settles_b = settles_b;
@@ -145,6 +166,7 @@ nine = record {
   janet_settles_derivatives_e = settles_derivatives;
   janet_like_completes_d = complete_d;
   janet_falls_short_on_d = short_d;
+  thomas_completes_c = complete_c;
 }
 
 -- what a search over the rows of set B answers

@@ -3,6 +3,7 @@ use Rattle.std.specs.Prelude.{◌≡◌, ℕ, List, [], ◌∷◌, length, Some,
 use Rattle.elements.specs.Element.{Shown}
 use Rattle.divisions.specs.Laws.{Meaning}
 use Rattle.divisions.specs.Janet.{janet, janet_like}
+use Rattle.divisions.specs.Thomas.{thomas}
 use Rattle.cones.specs.Cones.{Complete, IsFirstShortfall}
 use Rattle.search.specs.Liveness.{RowsOfSheet, Dead, answer, tested}
 
@@ -21,6 +22,10 @@ set_a = plain 1 0 0 ∷ plain 2 0 0 ∷ plain 0 1 0 ∷ plain 1 0 1 ∷ []
 -- x1³, x1x2, x2²
 abbrev pub set_b : List Shown
 set_b = plain 3 0 0 ∷ plain 1 1 0 ∷ plain 0 2 0 ∷ []
+
+-- x1, x2, x1x2
+abbrev pub set_c : List Shown
+set_c = plain 1 0 0 ∷ plain 0 1 0 ∷ plain 1 1 0 ∷ []
 
 -- x1⁵, x1²x2, x1x2⁴, x1²x3², x1x2²x3², x3⁵
 abbrev pub set_d : List Shown
@@ -45,8 +50,9 @@ pub record SearchAnswers (m : Meaning) (n : ℕ) (rows : List Shown)
   pub answers : answer m n rows ≡ p
   pub counts : length (tested m n rows) ≡ c
 
--- what is shown of the worked sets by Janet and by Janet-like division
-pub record TheNineWorkedResults : Type 0 where
+-- what is shown of the worked sets by Janet, by Janet-like and by Thomas division, for which the
+-- ordering plays no part
+pub record TheTenWorkedResults : Type 0 where
   pub janet_settles_a : SearchAnswers janet 3 set_a (Some (1 ∷ 2 ∷ 3 ∷ [])) 3
   pub prefix_3_of_a_is_dead : Dead janet 3 set_a (3 ∷ [])
   pub janet_settles_b : SearchAnswers janet 2 set_b (Some (2 ∷ 1 ∷ [])) 3
@@ -56,3 +62,4 @@ pub record TheNineWorkedResults : Type 0 where
   pub janet_settles_derivatives_e : SearchAnswers janet 2 derivatives_e (Some (1 ∷ 2 ∷ [])) 2
   pub janet_like_completes_d : Complete 3 set_d (janet_like set_d falling)
   pub janet_falls_short_on_d : IsFirstShortfall 3 set_d (janet set_d falling) 0 3 1
+  pub thomas_completes_c : (order : List ℕ) → Complete 2 set_c (thomas set_c order)

@@ -1,9 +1,9 @@
-// The worked sets: nine results shown together, twelve small sheets on which the definitions and
+// The worked sets: ten results shown together, twelve small sheets on which the definitions and
 // the second implementation agree, and one of the results run.
 #![tactic(auto)]
 
 ghost use Rattle.std.specs.Prelude.{◌≡◌, [], ◌∷◌, Some};
-ghost use Rattle.worked.specs.Sets.{TheNineWorkedResults};
+ghost use Rattle.worked.specs.Sets.{TheTenWorkedResults};
 ghost use Rattle.worked.specs.Seeded.{TheSeededSheetsAreAsTheReferenceSays};
 
 use divisions::Janet;
@@ -15,7 +15,7 @@ use search::searching::{Found, search};
 pub fn settle_set_b() -> Found
     ensures tested { result.tested ≡ 3 }
     ensures ordering { result.ordering ≡ Some (2 ∷ 1 ∷ 0 ∷ 0 ∷ 0 ∷ 0 ∷ 0 ∷ 0 ∷ []) }
-    ensures nine { TheNineWorkedResults }
+    ensures ten { TheTenWorkedResults }
     ensures seeded { TheSeededSheetsAreAsTheReferenceSays }
 {
     let cube = PlainTerm::make(0, [3, 0, 0, 0, 0, 0, 0, 0]);
