@@ -24,7 +24,7 @@ import sheetlog
 import store
 
 TERMS, DERIVATIVES = sheetlog.TERMS, sheetlog.DERIVATIVES
-JANET, JANET_LIKE = sheetlog.JANET, sheetlog.JANET_LIKE
+JANET = sheetlog.JANET
 LARGEST = sheetlog.LARGEST_EXPONENT
 BLANK = (0, (0,) * 8)
 OPERAND = 17
@@ -209,10 +209,10 @@ class Stored:
         """The bar and the limits of each of these variables at a place."""
         for v in variables:
             bar = answer(bar_words, self.parts.bar, place, v)
-            janet, janet_like = (
+            limits = " ".join(
                 answer(limit_words, self.parts.limit, division, place, v)
-                for division in (JANET, JANET_LIKE))
-            yield f" | x{v} {bar} {janet} {janet_like}"
+                for division in sheetlog.DIVISIONS)
+            yield f" | x{v} {bar} {limits}"
 
     def say_row(self, place, variables):
         self.say(f"{place}" + "".join(self.cells(place, variables)))
@@ -310,6 +310,27 @@ def worked_sets():
     yield Stored("set-d-in-two-families", DERIVATIVES, n, 64).insert(
         *(element(f"d{family} {text}") for text in texts
           for family in (1, 2))).tell_under([(3, 2, 1), (1, 3, 2)])
+
+
+def thomas_sets():
+    """Thomas looks at every row of the family and at no other, and what is
+    equal is not greater."""
+    families = elements("d1 x1", "d2 x1^2", "d1 x2", "d2 x1 x2^3",
+                        "d16 x1^4095", "d16 x2^4095", "d3 x1^4 x2^4 x3^4",
+                        "d2 x3", "d4 x1^255 x2^256", "d4 x1^256 x2^255")
+    yield Stored("thomas-in-families", DERIVATIVES, 3, 11).insert(
+        *families).tell_under(all_orderings(3))
+    equal = elements("x1 x2", "x1 x3", "x1", "x1 x2^2", "x1 x2^2 x3",
+                     "x2^2 x3")
+    yield Stored("thomas-at-equal-exponents", TERMS, 3, 9).insert(
+        *equal).tell_under(all_orderings(3))
+    # The greatest exponent comes and goes.
+    stored = Stored("thomas-after-edits", TERMS, 2, 5).insert(
+        *elements("x1^4094", "x1^4094 x2")).tell_rows()
+    for greater in elements("x1^4095 x2^2", "x1^4093 x2^4095"):
+        stored.insert(greater).tell_under(all_orderings(2))
+        stored.withdraw(greater).tell_rows()
+    yield stored
 
 
 def known_sets():
@@ -509,8 +530,9 @@ def refused_edits():
 
 def all_sheets():
     return list(itertools.chain(
-        worked_sets(), known_sets(), no_such_bar(), no_sheet(),
-        never_opened(), refused_edits(), edits(), seeded(), full_tables()))
+        worked_sets(), thomas_sets(), known_sets(), no_such_bar(),
+        no_sheet(), never_opened(), refused_edits(), edits(), seeded(),
+        full_tables()))
 
 
 def main():

@@ -1,12 +1,17 @@
 """Known example sets of the field, and what is known of them.
 
 Rows are in the text form of makelog, orderings have the greatest variable
-first.  `says` lists what the literature says of the set, in these forms:
+first.  `says` lists what the literature says of the set, and what the
+definition of Thomas says of it in so many words, in these forms:
 
     ("verdict", ordering, division, answer)   "yes", or the first shortfall as
                                               place, variable, power; or "no"
-    ("free", ordering, {row: variables})      the variables without a limit
-    ("limits", ordering, {row: {v: limit}})   Janet-like limits, all of them
+    ("free", ordering, {row: variables}, division)
+                                              the variables without a limit;
+                                              by Janet if none is named
+    ("limits", ordering, {row: {v: limit}}, division)
+                                              the limits, all of them; by
+                                              Janet-like if none is named
     ("in cone", ordering, division, [(element, row), ...])
     ("in no cone", ordering, division, [element, ...])
     ("live", division, prefix, True or False)
@@ -15,7 +20,7 @@ first.  `says` lists what the literature says of the set, in these forms:
     ("stars", ordering, {v: number of stars})
 """
 
-JANET, LIKE = 1, 2
+JANET, LIKE, THOMAS = 1, 2, 3
 
 
 class Known:
@@ -35,11 +40,37 @@ KNOWN = [
     Known("two-variables", 2, (2, 1), ["x1", "x2"], [
         ("free", (2, 1), {"x1": {1}, "x2": {1, 2}}),
         ("free", (1, 2), {"x1": {1, 2}, "x2": {2}}),
+        ("free", (2, 1), {"x1": {1}, "x2": {2}}, THOMAS),
+        ("free", (1, 2), {"x1": {1}, "x2": {2}}, THOMAS),
+        ("in no cone", (1, 2), THOMAS, ["x1 x2"]),
+        ("in no cone", (2, 1), THOMAS, ["x1 x2"]),
     ]),
+
+    # Set C, the same two and their product: complete by Thomas, whose limits
+    # are the same under both orderings.
+    Known("two-variables-and-their-product", 2, (2, 1),
+          ["x1", "x2", "x1 x2"], [
+              ("free", (1, 2), {"x1": {1}, "x2": {2}, "x1 x2": {1, 2}},
+               THOMAS),
+              ("free", (2, 1), {"x1": {1}, "x2": {2}, "x1 x2": {1, 2}},
+               THOMAS),
+              ("limits", (1, 2), {"x1": {2: 1}, "x2": {1: 1}, "x1 x2": {}},
+               THOMAS),
+              ("limits", (2, 1), {"x1": {2: 1}, "x2": {1: 1}, "x1 x2": {}},
+               THOMAS),
+              ("verdict", (1, 2), THOMAS, "yes"),
+              ("verdict", (2, 1), THOMAS, "yes"),
+              ("in cone", (1, 2), THOMAS, [
+                  ("x1^9", "x1"), ("x2^9", "x2"), ("x1 x2", "x1 x2"),
+                  ("x1^5 x2", "x1 x2"), ("x1^2 x2^7", "x1 x2")]),
+              ("in no cone", (1, 2), THOMAS, ["1"]),
+              ("settles", THOMAS, True),
+          ]),
 
     # A single term is complete; the source names no term, this one is ours.
     Known("single-term", 3, (3, 2, 1), ["x1^2 x3"], [
         ("free", (3, 2, 1), {"x1^2 x3": {1, 2, 3}}),
+        ("free", (3, 2, 1), {"x1^2 x3": {1, 2, 3}}, THOMAS),
         ("verdict", (3, 2, 1), JANET, "yes"),
         ("settles", JANET, True),
     ]),

@@ -14,7 +14,7 @@ line; a # and what follows it on the line is a comment.
     insert d2 x1^2         a derivative: d and its family in front
     withdraw 1             the term 1: every exponent 0
     arrange 2 1            padded with zeros to eight bytes
-    verdict janet          janet, janet-like, or a number for any byte
+    verdict janet          janet, janet-like, thomas, or a number for any byte
     weigh janet 2 1        a division, then order bytes as for arrange
     settle janet-like
     locate x1^2 x2^2
@@ -33,7 +33,7 @@ import re
 import sys
 
 KINDS = {"terms": 0, "derivatives": 1}
-DIVISIONS = {"janet": 1, "janet-like": 2}
+DIVISIONS = {"janet": 1, "janet-like": 2, "thomas": 3}
 CODES = {"insert": 1, "withdraw": 2, "arrange": 3, "verdict": 4,
          "weigh": 5, "settle": 6, "locate": 7, "reopen": 8}
 NAMES = {code: name for name, code in CODES.items()}
@@ -74,7 +74,7 @@ def named(word, names, what):
         return names[word]
     if word.isdigit():
         return number(word, 255, what)
-    raise BadLine(f"{what} is {' or '.join(names)} or a number, not {word}")
+    raise BadLine(f"{what} is {', '.join(names)} or a number, not {word}")
 
 
 def read_element(words):

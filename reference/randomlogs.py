@@ -138,6 +138,7 @@ class Session:
         self.kind = kind
         self.sheet = sheetlog.Sheet(n, kind)
         self.data = bytearray([n, kind])
+        self.filled_by = None
         if kind == sheetlog.TERMS:
             self.families = [0]
         else:
@@ -170,8 +171,8 @@ class Session:
 
     def division(self):
         if self.rng.random() < 0.04:
-            return bytes([self.rng.choice([0, 3, 255])])
-        return bytes([self.rng.choice([1, 2])])
+            return bytes([self.rng.choice([0, 4, 255])])
+        return bytes([self.rng.choice(sheetlog.DIVISIONS)])
 
     def ordering(self):
         """Order bytes: mostly an ordering."""
@@ -242,13 +243,15 @@ class Session:
             self.element(1, (self.family(), exponents))
 
     def complete_by_hand(self):
-        """Fill shortfalls under one ordering, until there is none."""
+        """Fill shortfalls by a division under one ordering, until there is
+        none.  Remember the division, which is then likely to settle."""
         ordering = tuple(self.rng.sample(range(1, self.n + 1), self.n))
-        division = self.rng.choice([1, 1, 2])
+        division = self.rng.choice([1, 1, 2, 3, 3])
+        self.filled_by = division
         if self.rng.random() < 0.5:
             self.write(3, makelog.order_bytes(ordering))
         asked = self.rng.random() < 0.3
-        for _ in range(12):
+        for _ in range(16):
             if asked:
                 self.write(5, bytes([division])
                            + makelog.order_bytes(ordering))
@@ -259,6 +262,13 @@ class Session:
             product = sheetlog.times_power(self.rows[place], v, m)
             if not self.element(1, product):
                 break
+
+    def settle(self):
+        """Settle, often by the division that shortfalls were filled by."""
+        division = self.rng.choice(sheetlog.DIVISIONS)
+        if self.filled_by and self.rng.random() < 0.7:
+            division = self.filled_by
+        self.write(6, bytes([division]))
 
     def fill(self):
         """Fill the table, and a little over."""
@@ -291,7 +301,7 @@ class Session:
             for v, e in zip(some, term):
                 exponents[v] = e
             self.element(1, (family, exponents))
-        self.write(6, bytes([self.rng.choice([1, 2])]))
+        self.settle()
         self.locate_some()
 
     def step(self):
@@ -349,7 +359,7 @@ def ordinary(rng):
         session.complete_by_hand()
     for _ in range(rng.choice([1, 1, 2])):
         if rng.random() < 0.6:
-            session.write(6, bytes([rng.choice([1, 2])]))
+            session.settle()
             if session.settled:
                 session.locate_some()
         for _ in range(rng.randint(0, 7)):
@@ -378,7 +388,7 @@ def wide(rng):
     session.insert_set()
     if session.rows and rng.random() < 0.5:
         session.complete_by_hand()
-    session.write(6, bytes([rng.choice([1, 2])]))
+    session.settle()
     session.locate_some()
     return session.data
 
@@ -412,7 +422,8 @@ def longest(rng):
     session.insert_set()
     while len(session.data) < length and rng.random() < 0.995:
         session.step()
-    often = rng.choice([b"\x04\x01", b"\x05\x02" + bytes([2, 1] + [0] * 6),
+    often = rng.choice([b"\x04\x01", b"\x04\x03",
+                        b"\x05\x02" + bytes([2, 1] + [0] * 6),
                         b"\x01" + makelog.element_bytes(0, [1, 1]), b"\x08"])
     missing = length - len(session.data)
     session.data += often * (missing // len(often) + 1)

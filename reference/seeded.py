@@ -4,8 +4,9 @@
     python3 reference/seeded.py
 
 writes crates/worked/specs/Seeded.antt, the sheets with their bars, gaps,
-verdicts, answers and counts, and crates/worked/proofs/Seeded.antt, where the
-prover finds the same by computing.
+limits by Thomas, verdicts, answers and counts, and
+crates/worked/proofs/Seeded.antt, where the prover finds the same by
+computing.
 """
 
 import os
@@ -14,7 +15,7 @@ import selfcheck
 import sheetlog
 
 SEED, COUNT, WIDTH = "definitions", 12, 100
-JANET, LIKE = sheetlog.JANET, sheetlog.JANET_LIKE
+JANET, LIKE, THOMAS = sheetlog.DIVISIONS
 CRATE = os.path.join(os.path.dirname(os.path.abspath(__file__)), "..", "crates", "worked")
 
 
@@ -73,9 +74,10 @@ class Sheet:
         return table([str(selfcheck.bar_number(self.rows, self.ordering, u, v)) for v in variables]
                      for u in self.rows)
 
-    def gaps(self):
-        tops = {v: frozenset(self.ordering[:self.ordering.index(v)]) for v in self.ordering}
-        columns = [self.reference.limits(LIKE, tops[v], v) for v in range(1, self.n + 1)]
+    def limits(self, division):
+        """The limits by a division; those by Janet-like are the gaps."""
+        tops = dict(self.reference.limits_from_the_top(division, self.ordering))
+        columns = [tops[v] for v in range(1, self.n + 1)]
         return table([option(finite(column[p])) for column in columns] for p in range(len(self.rows)))
 
     def complete(self, division):
@@ -87,19 +89,22 @@ class Sheet:
         return [f"SearchAnswers {name} {self.n} sheet_{self.number} {answer} {count}"]
 
     def evaluates(self):
-        return [f"Evaluates {self.n} sheet_{self.number} ({self.eight()})", f"({self.bars()})", f"({self.gaps()})",
-                f"{self.complete(JANET)} {self.complete(LIKE)}"]
+        return [f"Evaluates {self.n} sheet_{self.number} ({self.eight()})", f"({self.bars()})",
+                f"({self.limits(LIKE)})", f"({self.limits(THOMAS)})",
+                " ".join(map(self.complete, sheetlog.DIVISIONS))]
 
 
 def sheets():
     """As many that Janet division settles as others."""
     kept = {True: [], False: []}
-    for n, rows in selfcheck.small_sheets(SEED, 10000, 3, 3, 5):
+    for n, rows in selfcheck.small_sheets(SEED, 10000, 3, 3, 5, (JANET, LIKE)):
         answered = sheetlog.Rows(rows, n).search(JANET)[0] is not None
         if n > 1 and len(rows) > 2 and len(kept[answered]) < COUNT // 2:
             kept[answered].append((n, rows))
     return [Sheet(number, *made) for number, made in enumerate(kept[True] + kept[False], 1)]
 
+
+FIELDS = ["bars_are", "gaps_are", "thomas_limits_are", "janet_says", "janet_like_says", "thomas_says"]
 
 SPECS = """-- Small sheets made by seed, with what the second implementation says of them. Written by
 -- reference/seeded.py. Assumes nothing.
@@ -110,6 +115,7 @@ use Rattle.orderings.specs.Rows.{row}
 use Rattle.barcode.specs.Bars.{bar_number}
 use Rattle.barcode.specs.Gap.{gap}
 use Rattle.divisions.specs.Janet.{janet, janet_like}
+use Rattle.divisions.specs.Thomas.{thomas}
 use Rattle.search.specs.Liveness.{live}
 use Rattle.worked.specs.Sets.{element, SearchAnswers}
 
@@ -117,21 +123,25 @@ use Rattle.worked.specs.Sets.{element, SearchAnswers}
 abbrev pub table : {A : Type 0} → ℕ → List Shown → (ℕ → ℕ → A) → List (List A)
 table n rows f = map (λ p. map (f p) (range_with_len 1 n)) (range_with_len 0 (length rows))
 
--- the numbers of bars and the gaps under an ordering, and whether it makes the rows complete by
--- Janet and by Janet-like division
+-- the numbers of bars, the gaps and the limits by Thomas division under an ordering, and whether it
+-- makes the rows complete by Janet, by Janet-like and by Thomas division
 pub record Evaluates (n : ℕ) (rows : List Shown) (order : List ℕ)
     (bars : List (List ℕ)) (gaps : List (List (Option ℕ)))
-    (by_janet by_janet_like : Bool) : Type 0 where
+    (thomas_limits : List (List (Option ℕ)))
+    (by_janet by_janet_like by_thomas : Bool) : Type 0 where
   pub bars_are : table n rows (λ p v. bar_number rows order (row rows p) v) ≡ bars
   pub gaps_are : table n rows (gap rows order) ≡ gaps
+  pub thomas_limits_are : table n rows (thomas rows order) ≡ thomas_limits
   pub janet_says : live janet n rows (take n order) ≡ by_janet
   pub janet_like_says : live janet_like n rows (take n order) ≡ by_janet_like
+  pub thomas_says : live thomas n rows (take n order) ≡ by_thomas
 """
 
 PROOFS = """-- What the second implementation says of the seeded sheets, by computing the definitions. Written by
 -- reference/seeded.py. Assumes nothing.
 use Rattle.std.proofs.Common.{true, false, [], ◌∷◌, Some, None, refl}
 use Rattle.divisions.specs.Janet.{janet, janet_like}
+use Rattle.divisions.specs.Thomas.{thomas}
 use Rattle.search.specs.Prefixes.{prefixes}
 use Rattle.search.specs.Walks.{first_live, tested_to}
 use Rattle.worked.specs.Sets.{SearchAnswers}
@@ -152,11 +162,12 @@ def main():
     for sheet in all_sheets:
         for name, says in ((f"told_{sheet.number}", sheet.evaluates()),
                            (f"janet_{sheet.number}", sheet.settles(JANET, "janet")),
-                           (f"janet_like_{sheet.number}", sheet.settles(LIKE, "janet_like"))):
+                           (f"janet_like_{sheet.number}", sheet.settles(LIKE, "janet_like")),
+                           (f"thomas_{sheet.number}", sheet.settles(THOMAS, "thomas"))):
             fields.append(laid_out(f"  pub {name} :", says, " " * 6))
             parts.append(f"  {name} = {name};")
             if len(says) > 1:
-                body = "record { bars_are = refl; gaps_are = refl; janet_says = refl; janet_like_says = refl }"
+                body = "record {\n" + "".join(f"  {field} = refl;\n" for field in FIELDS) + "}"
             else:
                 body = f"record {{ sheet = rows_from {sheet.families} {sheet.n} sheet_{sheet.number} refl; answers = refl; counts = refl }}"
             statement = laid_out(f"{name} :", says, " " * 4)

@@ -21,8 +21,8 @@ import makelog
 import randomlogs
 import sheetlog
 
-JANET, LIKE = sheetlog.JANET, sheetlog.JANET_LIKE
-BOTH = (JANET, LIKE)
+DIVISIONS = JANET, LIKE, THOMAS = (sheetlog.JANET, sheetlog.JANET_LIKE,
+                                   sheetlog.THOMAS)
 HERE = os.path.dirname(os.path.abspath(__file__))
 EXAMPLES = os.path.join(os.path.dirname(HERE), "examples")
 
@@ -54,8 +54,18 @@ def gap(rows, ordering, u, v):
                and exponent(w, v) > exponent(u, v))
 
 
+def thomas(rows, u, v):
+    """The limit of v for u by Thomas, or None: 1 where some row of the same
+    family has a greater exponent in v.  No ordering is asked for."""
+    if any(w[0] == u[0] and exponent(w, v) > exponent(u, v) for w in rows):
+        return 1
+    return None
+
+
 def limit(rows, ordering, division, u, v):
     """The limit of v for u, or None."""
+    if division == THOMAS:
+        return thomas(rows, u, v)
     if star(rows, ordering, u, v):
         return None
     return 1 if division == JANET else gap(rows, ordering, u, v)
@@ -152,8 +162,10 @@ def some_ordering(n, rows):
     return tuple(random.Random(str(rows)).sample(range(1, n + 1), n))
 
 
-def small_sheets(seed, count, n_most, exponent_most, rows_most):
-    """Pairs (n, rows), half of them with two families."""
+def small_sheets(seed, count, n_most, exponent_most, rows_most,
+                 divisions=DIVISIONS):
+    """Pairs (n, rows), some of them with two families, some completed by one
+    of the divisions."""
     rng = random.Random(seed)
     for _ in range(count):
         n = rng.randint(1, n_most)
@@ -170,13 +182,13 @@ def small_sheets(seed, count, n_most, exponent_most, rows_most):
             if row not in rows and len(rows) < rows_most:
                 rows.append(row)
         if rng.random() < 0.4:
-            complete(rng, rows, n, exponent_most, rows_most)
+            complete(rng, rows, n, exponent_most, rows_most, divisions)
         yield n, rows
 
 
-def complete(rng, rows, n, exponent_most, rows_most):
+def complete(rng, rows, n, exponent_most, rows_most, divisions):
     """Fill shortfalls while the rows stay small."""
-    division = rng.choice(BOTH)
+    division = rng.choice(divisions)
     ordering = tuple(rng.sample(range(1, n + 1), n))
     while len(rows) < rows_most:
         short = sheetlog.Rows(rows, n).first_shortfall(division, ordering)
@@ -201,14 +213,46 @@ def check_limits():
         sheet = sheetlog.Rows(rows, n)
         for ordering in itertools.islice(
                 itertools.permutations(range(1, n + 1)), 24):
-            for division in BOTH:
+            for division in DIVISIONS:
                 for v, limits in sheet.limits_from_the_top(division, ordering):
                     for u, found in zip(rows, limits):
                         plain = limit(rows, ordering, division, u, v)
                         assert found == (sheetlog.NO_LIMIT if plain is None
                                          else plain)
                         looked += 1
-    return f"{looked} limits as stars and gaps say"
+    return f"{looked} limits as stars, gaps and families say"
+
+
+def check_thomas_knows_no_ordering():
+    looked = yes = no = 0
+    for n, rows in small_sheets("thomas", 150, 4, 3, 8):
+        orderings = list(itertools.permutations(range(1, n + 1)))
+        first = orderings[0]
+        told = sheetlog.Rows(rows, n)
+        limits_of = dict(told.limits_from_the_top(THOMAS, first))
+        short = told.first_shortfall(THOMAS, first)
+        for ordering in orderings:
+            # Rows of their own, so that nothing kept is told again.
+            sheet = sheetlog.Rows(rows, n)
+            tops = sheet.limits_from_the_top(THOMAS, ordering)
+            assert dict(tops) == limits_of
+            assert sheet.first_shortfall(THOMAS, ordering) == short
+            looked += 1
+        for k in range(1, n + 1):
+            for some in itertools.combinations(range(1, n + 1), k):
+                dead = plainly_dead(rows, some, THOMAS)
+                for prefix in itertools.permutations(some):
+                    assert sheet.live(THOMAS, prefix) != dead
+                assert short is not None or not dead
+        answer, count = sheet.search(THOMAS)
+        if short is None:
+            assert (answer, count) == (first, n)
+        else:
+            assert answer is None and n <= count <= len(whole_listing(n))
+        yes, no = yes + (short is None), no + (short is not None)
+    assert yes > 40 and no > 40
+    return (f"the same under {looked} orderings, {yes} settled by 1 to n "
+            f"with count n and {no} by none")
 
 
 def check_completeness():
@@ -217,7 +261,7 @@ def check_completeness():
         sheet = sheetlog.Rows(rows, n)
         multiples = list(box_of_multiples(rows, n))
         for ordering in itertools.permutations(range(1, n + 1)):
-            for division in BOTH:
+            for division in DIVISIONS:
                 by_box = True
                 tops = sheet.limits_from_the_top(division, ordering)
                 for w in multiples:
@@ -242,7 +286,7 @@ def check_cones():
                                         for v in range(8)))
                      for _ in range(5)]
         ordering = tuple(rng.sample(range(1, n + 1), n))
-        for division in BOTH:
+        for division in DIVISIONS:
             for w in elements:
                 holding = [place for place, u in enumerate(rows)
                            if in_cone(rows, ordering, division, u, w)]
@@ -262,7 +306,7 @@ def check_first_shortfall():
     found = 0
     for n, rows in small_sheets("first", 150, 4, 3, 7):
         ordering = some_ordering(n, rows)
-        for division in BOTH:
+        for division in DIVISIONS:
             expected = None
             for place, v in itertools.product(range(len(rows)),
                                               range(1, n + 1)):
@@ -284,7 +328,7 @@ def check_search():
                              small_sheets("search 4", 25, 4, 2, 8))
     for n, rows in sheets:
         sheet = sheetlog.Rows(rows, n)
-        for division in BOTH:
+        for division in DIVISIONS:
             answer, count, live = plain_search(rows, n, division)
             assert sheet.search(division) == (answer, count)
             first = None
@@ -299,20 +343,35 @@ def check_search():
             answers, none = answers + (answer is not None), \
                 none + (answer is None)
     assert answers > 40 and none > 40
+    # By Thomas only the last prefix of each ordering is dead here.
+    for n in (2, 3, 4):
+        rows = [element(" ".join(f"x{v}" for v in range(1, n + 1) if v != w))
+                for w in range(1, n + 1)]
+        answer, count, _ = plain_search(rows, n, THOMAS)
+        assert sheetlog.Rows(rows, n).search(THOMAS) == (answer, count)
+        assert (answer, count) == (None, len(whole_listing(n)))
     return (f"{answers} answers and {none} dead ends, with counts, by the "
             "whole listing and by all orderings")
 
 
 def check_janet_like_completes_more():
-    both = like = 0
+    """Thomas limits every variable that Janet limits, so what Thomas
+    completes Janet completes too; and Janet-like completes what any does."""
+    every = two = one = 0
     for n, rows in small_sheets("more", 300, 4, 4, 9):
         sheet = sheetlog.Rows(rows, n)
         for ordering in itertools.permutations(range(1, n + 1)):
-            janet = sheet.first_shortfall(JANET, ordering) is None
-            janet_like = sheet.first_shortfall(LIKE, ordering) is None
-            assert janet_like or not janet
-            both, like = both + janet, like + (janet_like and not janet)
-    return f"{both} completed by Janet and Janet-like, {like} by the latter"
+            janet, janet_like, thomas_too = (
+                sheet.first_shortfall(division, ordering) is None
+                for division in DIVISIONS)
+            assert janet or not thomas_too
+            assert janet_like or not (janet or thomas_too)
+            every += thomas_too
+            two += janet and not thomas_too
+            one += janet_like and not janet
+    assert min(every, two, one) > 100
+    return (f"{every} completed by all three, {two} by Janet and Janet-like, "
+            f"{one} by Janet-like alone")
 
 
 def check_laws():
@@ -325,7 +384,7 @@ def check_laws():
             v = next(v for v in ordering if exponent(u, v) != exponent(w, v))
             less = exponent(w, v) - exponent(u, v)
             if less > 0:
-                for division in BOTH:
+                for division in DIVISIONS:
                     m = limit(rows, ordering, division, u, v)
                     assert m is not None and 1 <= m <= less
                     looked += 1
@@ -334,6 +393,7 @@ def check_laws():
 
 SETS = {"A": (3, ["x1", "x1^2", "x2", "x1 x3"]),
         "B": (2, ["x1^3", "x1 x2", "x2^2"]),
+        "C": (2, ["x1", "x2", "x1 x2"]),
         "D": (3, ["x1^5", "x1^2 x2", "x1 x2^4", "x1^2 x3^2",
                   "x1 x2^2 x3^2", "x3^5"]),
         "E": (2, ["x1^2", "x2^2"]),
@@ -355,12 +415,21 @@ def check_worked_sets():
     assert worked("E as derivatives").search(JANET) == ((1, 2), 2)
     assert worked("D").first_shortfall(LIKE, (3, 2, 1)) is None
     assert worked("D").first_shortfall(JANET, (3, 2, 1)) == (0, 3, 1)
+    for ordering in ((1, 2), (2, 1)):
+        assert worked("C").first_shortfall(THOMAS, ordering) is None
+    # Not among the ten: what settling C, and the others by Thomas, gives.
+    for division in DIVISIONS:
+        assert worked("C").search(division) == ((1, 2), 2)
+    assert worked("E").search(THOMAS) == (None, 2)
+    assert worked("E as derivatives").search(THOMAS) == ((1, 2), 2)
+    for name in "ABD":
+        assert worked(name).search(THOMAS)[0] is None
     for name, (n, texts) in SETS.items():
         rows = list(map(element, texts))
-        for division in BOTH:
+        for division in DIVISIONS:
             assert plain_search(rows, n, division)[:2] \
                 == worked(name).search(division)
-    return "the nine results of the rules page"
+    return "the ten results of the rules page"
 
 
 def check_table_of_d():
@@ -403,7 +472,7 @@ def check_bars_told():
                 assert parts.bar(place, v) == (
                     bar_number(rows, ordering, u, v),
                     star(rows, ordering, u, v))
-                for division in BOTH:
+                for division in DIVISIONS:
                     assert parts.limit(division, place, v) \
                         == limit(rows, ordering, division, u, v)
                 looked += 1
@@ -411,12 +480,12 @@ def check_bars_told():
     told = bars.Stored("d", bars.TERMS, n, 6).insert(
         *map(element, texts)).tell_under([(3, 2, 1)]).lines[-6:]
     assert told == [
-        "0 | x1 1* - - | x2 1 1 1 | x3 1 1 2",
-        "1 | x1 2* - - | x2 2 1 3 | x3 1 1 2",
-        "2 | x1 3* - - | x2 3* - - | x3 1 1 2",
-        "3 | x1 4* - - | x2 4 1 2 | x3 2 1 3",
-        "4 | x1 5* - - | x2 5* - - | x3 2 1 3",
-        "5 | x1 6* - - | x2 6* - - | x3 3* - -"]
+        "0 | x1 1* - - - | x2 1 1 1 1 | x3 1 1 2 1",
+        "1 | x1 2* - - 1 | x2 2 1 3 1 | x3 1 1 2 1",
+        "2 | x1 3* - - 1 | x2 3* - - - | x3 1 1 2 1",
+        "3 | x1 4* - - 1 | x2 4 1 2 1 | x3 2 1 3 1",
+        "4 | x1 5* - - 1 | x2 5* - - 1 | x3 2 1 3 1",
+        "5 | x1 6* - - 1 | x2 6* - - 1 | x3 3* - - -"]
     return f"{looked} bars with their limits, and D as it is told"
 
 
@@ -496,11 +565,64 @@ def check_parts():
             else:
                 refused = None
             assert refusal_of(parts.bar, place, v) == refused
-            for division in BOTH:
+            for division in DIVISIONS:
                 assert refusal_of(parts.limit, division, place, v) == refused
         judged[made] += 1
     assert min(judged.values()) > 200
     return f"{judged[True]} parts make a sheet and {judged[False]} none"
+
+
+# Four wrong readings of Thomas, each a way to give the limit of v for u.
+
+def of_every_family(rows, ordering, u, v):
+    """Rows of other families count too."""
+    return 1 if any(exponent(w, v) > exponent(u, v) for w in rows) else None
+
+
+def of_rows_that_agree(rows, ordering, u, v):
+    """Only rows that agree in the greater variables count."""
+    return limit(rows, ordering, JANET, u, v)
+
+
+def of_equal_exponents(rows, ordering, u, v):
+    """An equal exponent of another row counts as greater."""
+    return 1 if any(w != u and w[0] == u[0]
+                    and exponent(w, v) >= exponent(u, v)
+                    for w in rows) else None
+
+
+def of_the_difference(rows, ordering, u, v):
+    """The limit is the smallest difference to a greater exponent."""
+    return min((exponent(w, v) - exponent(u, v) for w in rows
+                if w[0] == u[0] and exponent(w, v) > exponent(u, v)),
+               default=None)
+
+
+# The reading, n, the ordering, a set, a row, a variable, the limit that the
+# reading gives there, the one by Thomas, and whether the rows are complete by
+# the reading and by Thomas.
+READINGS = [
+    (of_every_family, 2, (1, 2), ["d1 x1", "d2 x1^2"], "d1 x1", 1,
+     1, None, False, True),
+    (of_rows_that_agree, 2, (1, 2), ["x1", "x2"], "x1", 2,
+     None, 1, True, False),
+    (of_equal_exponents, 2, (1, 2), ["x1", "x1 x2"], "x1", 1,
+     1, None, False, True),
+    (of_the_difference, 1, (1,), ["x1", "x1^3"], "x1", 1,
+     2, 1, True, False),
+]
+
+
+def complete_by(rows, ordering, limit_of):
+    """Whether every multiple of a row up to small exponents is the product
+    of a row with a term below the limits that a reading gives for it."""
+    def holds(u, w):
+        limits = [(v, limit_of(rows, ordering, u, v)) for v in ordering]
+        return plainly_divides(u, w) and all(
+            most is None or exponent(w, v) - exponent(u, v) < most
+            for v, most in limits)
+    return all(any(holds(u, w) for u in rows)
+               for w in box_of_multiples(rows, len(ordering)))
 
 
 def check_near_misses():
@@ -510,7 +632,19 @@ def check_near_misses():
     assert [u for u in rows if plainly_divides(u, w)] == [element("x1^5")]
     assert worked("D").cone(JANET, (3, 2, 1), w) is None
     assert not worked("B").live(JANET, (1,)) and worked("B").live(JANET, (2,))
-    return "the three wrong readings are told apart"
+    for reading, n, ordering, texts, text, v, wrong, right, *complete_so \
+            in READINGS:
+        rows, u = list(map(element, texts)), element(text)
+        sheet = sheetlog.Rows(rows, n)
+        assert reading(rows, ordering, u, v) == wrong
+        assert thomas(rows, u, v) == right
+        assert sheet.limits(THOMAS, (), v)[rows.index(u)] \
+            == (right or sheetlog.NO_LIMIT)
+        assert complete_so == [
+            complete_by(rows, ordering, reading),
+            sheet.first_shortfall(THOMAS, ordering) is None]
+    return (f"three wrong readings are told apart, and {len(READINGS)} of "
+            "Thomas")
 
 
 def output_of(text):
@@ -573,8 +707,15 @@ def check_edge_cases():
         full + "withdraw x1^5\ninsert x1^64")
     assert "\n2 02 no 9\n" in output_of(head + "withdraw x1^4096")
     assert "\n2 05 no 11\n" in output_of(head + "weigh janet 2")
+    for byte in range(256):
+        answer = "no 12" if byte in (1, 2, 3) else "no 4"
+        assert f"\n2 04 {answer}\n" in output_of(head + f"verdict {byte}")
+        assert f"\n2 05 {'no 11' if answer == 'no 12' else answer}\n" \
+            in output_of(head + f"weigh {byte} 2")
+        assert f"\n2 06 {answer}\n" in output_of(head + f"settle {byte}")
     settled = head + "insert x1\nsettle janet\n"
-    assert "\n22 06 no 3\n" in output_of(settled + "settle 3")
+    assert "\n22 06 no 3\n" in output_of(settled + "settle 4")
+    assert "\n22 06 no 3\n" in output_of(settled + "settle thomas")
     assert "\n22 06 no 2\n" in output_of(settled + "bytes 06")
     assert "\n22 07 ok 0\n" in output_of(settled + "locate x1^65535")
     return "edge cases and the order of refusals"
@@ -593,15 +734,15 @@ def check_known(example):
             else:
                 assert got == (None if answer == "yes" else answer), said
         elif what == "free":
-            ordering, free = said
+            ordering, free, division = (*said, JANET)[:3]
             for text, variables in free.items():
-                assert {v for v in ordering if
-                        star(rows, ordering, element(text), v)} \
+                assert {v for v in ordering if limit(
+                    rows, ordering, division, element(text), v) is None} \
                     == variables, said
         elif what == "limits":
-            ordering, limits = said
+            ordering, limits, division = (*said, LIKE)[:3]
             for text, powers in limits.items():
-                got = {v: limit(rows, ordering, LIKE, element(text), v)
+                got = {v: limit(rows, ordering, division, element(text), v)
                        for v in ordering}
                 assert {v: m for v, m in got.items() if m is not None} \
                     == powers, (text, got)
@@ -680,9 +821,9 @@ def check_examples():
     return f"{len(names)} shipped examples: text, log and output agree"
 
 
-CHECKS = [check_limits, check_laws, check_completeness, check_cones,
-          check_first_shortfall, check_search,
-          check_janet_like_completes_more, check_worked_sets,
+CHECKS = [check_limits, check_thomas_knows_no_ordering, check_laws,
+          check_completeness, check_cones, check_first_shortfall,
+          check_search, check_janet_like_completes_more, check_worked_sets,
           check_table_of_d, check_bars_told, check_parts, check_near_misses,
           check_sample_log, check_edge_cases, check_known_sets, check_makelog,
           check_examples]

@@ -19,7 +19,7 @@ PLACES = 64
 LONGEST_INPUT = 65536
 LARGEST_EXPONENT = 4095
 TERMS, DERIVATIVES = 0, 1
-JANET, JANET_LIKE = 1, 2
+DIVISIONS = JANET, JANET_LIKE, THOMAS = 1, 2, 3
 NO_LIMIT = float("inf")
 
 
@@ -77,12 +77,25 @@ class Rows:
 
         Stars and gaps look at the rows of the same family that agree in every
         variable greater than v, so the set of those variables is all that
-        matters of an ordering.
+        matters of an ordering.  For Thomas nothing of it matters, and none
+        is asked for.
         """
+        if division == THOMAS:
+            greater = ()
         key = division, frozenset(greater), v
         if key not in self._limits:
-            self._limits[key] = self._find_limits(*key)
+            if division == THOMAS:
+                self._limits[key] = self._find_limits_by_thomas(v)
+            else:
+                self._limits[key] = self._find_limits(*key)
         return self._limits[key]
+
+    def _find_limits_by_thomas(self, v):
+        greatest = {}           # exponent in v of each family
+        for family, exponents in self.elements:
+            greatest[family] = max(exponents[v - 1], greatest.get(family, 0))
+        return [1 if exponents[v - 1] < greatest[family] else NO_LIMIT
+                for family, exponents in self.elements]
 
     def _find_limits(self, division, greater, v):
         companions = {}         # exponents in v of the rows that agree
@@ -334,7 +347,7 @@ def carry_out(sheet, code, operand_bytes):
     call, shape, on_settled = COMMANDS[code]
     if (sheet.settled_by is not None) != on_settled:
         raise Refused(3)
-    if shape.startswith("d") and operand_bytes[0] not in (JANET, JANET_LIKE):
+    if shape.startswith("d") and operand_bytes[0] not in DIVISIONS:
         raise Refused(4)
     return call(sheet, *operands_of(code, operand_bytes))
 

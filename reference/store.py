@@ -20,11 +20,12 @@ import sheetlog
 HERE = os.path.dirname(os.path.abspath(__file__))
 EXAMPLES = os.path.join(os.path.dirname(HERE), "examples")
 SHIPPED = ["set_b", "empty_sheet", "refusals", "cut_short", "derivatives",
-           "full_table"]
+           "full_table", "thomas"]
 SEEDED = 50
 
 SETS = {"set-a": (3, ["x1", "x1^2", "x2", "x1 x3"]),
         "set-b": (2, ["x1^3", "x1 x2", "x2^2"]),
+        "set-c": (2, ["x1", "x2", "x1 x2"]),
         "set-d": (3, ["x1^5", "x1^2 x2", "x1 x2^4", "x1^2 x3^2",
                       "x1 x2^2 x3^2", "x3^5"]),
         "set-e": (2, ["x1^2", "x2^2"])}
@@ -62,7 +63,7 @@ def times(row, v, m):
 
 def worked_sets():
     for name, (n, rows) in SETS.items():
-        for division in ("janet", "janet-like"):
+        for division in makelog.DIVISIONS:
             yield f"{name}-by-{division}", log(
                 n, "terms", *inserts(rows),
                 *(f"weigh {division} {o}" for o in orderings(n)),
@@ -75,12 +76,47 @@ def worked_sets():
         2, "derivatives", *inserts(e), "settle janet", "locate d1 x1^2 x2^2",
         "locate d2 x1^2 x2^2", "locate d1 x2^2", "locate d2 x1 x2^65535",
         "reopen", "settle janet-like")
+    yield "set-e-as-derivatives-by-thomas", log(
+        2, "derivatives", *inserts(e), "verdict thomas", "weigh thomas 2 1",
+        "settle thomas", "locate d1 x1^2 x2^2", "locate d2 x1^2 x2^2",
+        "locate d1 x2^2", "locate d2 x1 x2^65535", "reopen",
+        "insert d1 x2^2", "verdict thomas", "settle thomas")
     yield "set-e-verdict", log(2, "terms", *inserts(SETS["set-e"][1]),
                                "verdict janet", "settle janet")
     yield "withdraw-from-set-b", log(
         2, "terms", *inserts(SETS["set-b"][1]), "withdraw x1 x2",
         "withdraw x1 x2", "insert x1 x2", "settle janet", "locate x1^3",
         "locate x2^2", "locate x1 x2", "locate x1^3 x2^2")
+
+
+def set_c():
+    """Set C by all divisions, settled by each in turn."""
+    n, rows = SETS["set-c"]
+    locates = [f"locate {term}" for term in (
+        "x1", "x2", "x1 x2", "x1^7", "x2^7", "x1^2 x2", "x1 x2^2",
+        "x1^3 x2^4", "x1^65535", "x2^65535", "x1^65535 x2^65535", "1")]
+    yield "set-c-by-all", log(
+        n, "terms", *inserts(rows),
+        *(f"weigh {division} {o}" for division in makelog.DIVISIONS
+          for o in orderings(n)),
+        "arrange 2 1", "verdict thomas", "settle thomas", *locates,
+        "locate x3", "locate d1 x1", "reopen", "verdict thomas",
+        "settle janet", *locates, "reopen", "settle janet-like", *locates,
+        "reopen", "settle thomas", "locate x1 x2")
+    yield "set-c-by-thomas-row-by-row", log(
+        n, "terms", "insert x2", "verdict thomas", "insert x1",
+        "verdict thomas", "weigh thomas 2 1", "verdict janet",
+        "settle thomas", "insert x1 x2", "verdict thomas", "settle thomas",
+        "locate x1^2 x2", "reopen", "withdraw x2", "verdict thomas",
+        "settle thomas", "locate x1^2 x2", "locate x2^2", "reopen",
+        "withdraw x1", "verdict thomas", "withdraw x1 x2", "verdict thomas")
+    yield "set-c-of-two-functions", log(
+        n, "derivatives", *(f"insert d{f} {row}" for row in rows
+                            for f in (1, 2)),
+        "verdict thomas", "withdraw d2 x1 x2", "verdict thomas",
+        "settle thomas", "withdraw d2 x2", "verdict thomas", "settle thomas",
+        "locate d1 x1^2 x2^2", "locate d2 x1^2 x2^2", "locate d2 x2",
+        "locate d3 x1")
 
 
 # Near misses and edge cases
@@ -96,6 +132,117 @@ def near_misses():
     yield "other-greatest-variable", log(
         2, "terms", *inserts(SETS["set-b"][1]), "weigh janet 1 2",
         "weigh janet 2 1", "settle janet")
+
+
+def thomas():
+    """Near misses and edge cases of Thomas."""
+    yield "thomas-rows-of-another-family", log(
+        2, "derivatives", "insert d1 x1", "insert d2 x1^2", "verdict thomas",
+        "weigh thomas 2 1", "settle thomas", "locate d1 x1^9",
+        "locate d2 x1", "reopen", "insert d16 x1^4095 x2^4095",
+        "insert d3 x2^3", "verdict thomas", "insert d2 x1^3 x2^2",
+        "verdict thomas", "settle thomas", "withdraw d2 x1^3 x2^2",
+        "settle thomas", "locate d1 x1^65535 x2^65535",
+        "locate d16 x1^4095 x2^65535")
+    yield "thomas-equal-is-not-greater", log(
+        2, "terms", "insert x1", "insert x1 x2", "verdict thomas",
+        "weigh thomas 2 1", "insert x1 x2^2", "verdict thomas",
+        "settle thomas", "locate x1^5", "locate x1^5 x2", "locate x1 x2^5",
+        "reopen", "insert x1^2 x2^2", "verdict thomas", "settle thomas")
+    yield "thomas-equal-is-not-greater-in-three-variables", log(
+        3, "terms", "insert x1 x2 x3^2", "insert x1 x2^2 x3^2",
+        "insert x1^2 x2 x3^2", "verdict thomas", "insert x1^2 x2^2 x3^2",
+        "verdict thomas", "settle thomas", "locate x1 x2 x3^9",
+        "locate x1^9 x2 x3^2", "locate x1^9 x2^9 x3^9", "locate x1 x2 x3")
+    yield "thomas-rows-that-do-not-agree", log(
+        2, "terms", "insert x1", "insert x2", "verdict janet",
+        "verdict janet-like", "verdict thomas", "weigh thomas 2 1",
+        "arrange 2 1", "verdict janet", "verdict thomas", "settle thomas",
+        "settle janet", "locate x1 x2", "locate x1^2", "locate x2^2")
+    yield "thomas-rows-that-do-not-agree-in-three-variables", log(
+        3, "terms", "insert x1^2", "insert x1 x2", "insert x2 x3^2",
+        *(f"weigh {division} {o}" for o in orderings(3)
+          for division in makelog.DIVISIONS),
+        *(f"settle {division}" for division in ("thomas", "janet")))
+    yield "thomas-limit-is-no-difference", log(
+        1, "terms", "insert x1", "insert x1^3", "verdict thomas",
+        "verdict janet-like", "settle thomas", "insert x1^2",
+        "verdict thomas", "settle thomas", "locate x1^2", "locate x1^9",
+        "locate 1")
+    yield "thomas-after-edits", log(
+        2, "terms", "insert x1", "insert x2^2", "insert x1 x2^2",
+        "verdict thomas", "insert x1 x2", "verdict thomas",
+        "withdraw x2^2", "verdict thomas", "insert x1^2 x2",
+        "verdict thomas", "withdraw x1^2 x2", "verdict thomas")
+    yield "thomas-shortfall-by-variable-number", log(
+        3, "terms", "insert x3^2", "insert x2^2", "insert x1^2 x2",
+        "weigh thomas 3 2 1", "weigh thomas 1 2 3", "withdraw x1^2 x2",
+        "weigh thomas 3 2 1", "insert x2^2 x3", "insert x2^2 x3^2",
+        "weigh thomas 3 2 1", "insert x2 x3^2", "weigh thomas 3 1 2",
+        "settle thomas", "locate x1^7 x2 x3^2")
+    yield "thomas-exponent-4095", log(
+        2, "terms", "insert x1^4094", "insert x1^4095", "verdict thomas",
+        "settle thomas", "locate x1^4094", "locate x1^65535",
+        "locate x1^4094 x2^65535", "locate x1^4093", "reopen",
+        "insert x2^4095", "verdict thomas", "insert x1^4095 x2^4095",
+        "verdict thomas", "insert x1^4094 x2^4095", "verdict thomas",
+        "withdraw x1^4094", "verdict thomas", "settle thomas")
+    yield "thomas-exponents-above-a-byte", log(
+        2, "terms", "insert x1^255", "insert x1^256", "verdict thomas",
+        "settle thomas", "locate x1^255 x2^7", "locate x1^256",
+        "locate x1^511", "reopen", "insert x1^512", "verdict thomas",
+        "withdraw x1^256", "verdict thomas", "withdraw x1^255",
+        "insert x1^511", "verdict thomas")
+    yield "thomas-wide-gaps", log(
+        2, "terms", "insert 1", "insert x1^4095", "insert x2^4095",
+        "insert x1^4095 x2^4095", "verdict thomas", "settle thomas",
+        "settle janet-like", "locate x1^4094 x2^4094")
+    yield "thomas-starts-anew", log(
+        3, "terms", *inserts(["x1 x2", "x1 x3", "x1 x2 x3"]),
+        "arrange 3 1 2", "verdict thomas", "settle thomas",
+        "locate x1^2 x2^2", "reopen", "verdict thomas", "arrange 2 3 1",
+        "settle thomas", "reopen", "verdict janet")
+    yield "thomas-refused-keeps-the-ordering", log(
+        2, "terms", *inserts(SETS["set-b"][1]), "arrange 2 1",
+        "verdict janet", "settle thomas", "verdict janet", "settle janet",
+        "reopen", "settle thomas", "verdict janet")
+    yield "thomas-after-another-division", log(
+        2, "terms", "insert x1 x2^3", "insert x1^2 x2^3", "insert x1^2 x2^2",
+        "settle janet-like", "locate x1^9 x2^2", "locate x1 x2^9",
+        "locate x1^9 x2^9", "reopen", "settle thomas", "locate x1^9 x2^2",
+        "locate x1 x2^9", "locate x1^9 x2^9", "locate x1 x2^2", "reopen",
+        "settle janet", "locate x1^9 x2^2", "locate x1 x2^9", "reopen",
+        "withdraw x1^2 x2^3", "settle thomas", "settle janet-like")
+    yield "thomas-sixteen-families", log(
+        2, "derivatives", *(f"insert d{f} x{1 + f % 2}^{f}"
+                            for f in range(1, 17)),
+        "verdict thomas", "settle thomas", "locate d16 x1^16",
+        "locate d16 x1^15", "locate d15 x2^99", "locate d1 x1^9 x2^9",
+        "reopen", "insert d16 x2^2", "settle thomas", "verdict thomas")
+    grid = ["1" if not a + b else makelog.write_element(
+        makelog.element_bytes(0, (a, b)), False)
+            for b in range(8) for a in range(8)]
+    yield "thomas-full-table", log(
+        2, "terms", *inserts(grid), "verdict thomas", "settle thomas",
+        "locate x1^7 x2^7", "locate x1^3 x2^9", "locate x1^9 x2^3",
+        "locate x1^65535 x2^65535", "reopen", "withdraw x1^7 x2^7",
+        "verdict thomas", "insert x1^8 x2^7", "verdict thomas",
+        "settle thomas")
+    yield "thomas-eight-variables", log(
+        8, "terms", "insert x1 x8", "insert x1^2 x8", "insert x1^2 x8^3",
+        "verdict thomas", "insert x1 x8^2", "insert x1 x8^3",
+        "insert x1^2 x8^2", "verdict thomas",
+        "weigh thomas 8 7 6 5 4 3 2 1", "settle thomas",
+        "locate x1 x2^9 x5^65535 x8^2", "locate x1^9 x8",
+        "locate x1^65535 x8^65535", "locate x1 x7^4", "reopen",
+        "insert x7^2", "settle thomas")
+    yield "thomas-eight-variables-full-table", log(
+        8, "terms", *("insert " + (" ".join(
+            f"x{v}" for v in (1, 2, 4, 5, 7, 8)
+            if bits >> (1, 2, 4, 5, 7, 8).index(v) & 1) or "1")
+            for bits in range(64)),
+        "verdict thomas", "settle thomas", "locate x1^9 x5^9 x8^9",
+        "locate x3^9 x6^9", "reopen", "withdraw x1 x8", "verdict thomas")
 
 
 def edge_cases():
@@ -210,12 +357,29 @@ LONG_SEARCHES = [
 ]
 
 
+# By Thomas a prefix is live or dead by which variables it lists.  With the
+# products of all variables but one only all variables together are dead, so
+# all prefixes are tested.
+LONG_SEARCHES_BY_THOMAS = [
+    (4, ["x2 x3 x4", "x1 x3 x4", "x1 x2 x4", "x1 x2 x3"]),
+    (6, ["x2 x3 x4 x5 x6", "x1 x3 x4 x5 x6", "x1 x2 x4 x5 x6",
+         "x1 x2 x3 x5 x6", "x1 x2 x3 x4 x6", "x1 x2 x3 x4 x5"]),
+    (5, ["x1^2 x2^3", "x1 x2^3 x3", "x1^2 x2^2 x3"]),
+    (7, ["x1", "x2 x3"]),
+    (8, ["x1 x2", "x7 x8"]),
+]
+
+
 def long_searches():
     for at, (n, rows) in enumerate(LONG_SEARCHES, 1):
         # Refused or settled, then reopened (3 where it stayed open).
         yield f"long-search-{at}", log(
             n, "terms", *inserts(rows), "settle janet", "reopen",
             "verdict janet", "settle janet-like", "verdict janet-like")
+    for at, (n, rows) in enumerate(LONG_SEARCHES_BY_THOMAS, 1):
+        yield f"long-search-by-thomas-{at}", log(
+            n, "terms", *inserts(rows), "settle thomas", "verdict thomas",
+            "settle janet", "reopen")
 
 
 # Refusals
@@ -236,6 +400,9 @@ def all_codes_cut():
         2, "terms", "insert x1", "settle janet", "bytes 06")
     yield "cut-insert-in-settled-session", log(
         2, "terms", "insert x1", "settle janet", "bytes 01 00 00")
+    yield "cut-weigh-by-thomas", log(2, "terms", "insert x1", "bytes 05 03")
+    yield "cut-weigh-by-no-division", log(
+        2, "terms", "insert x1", "settle thomas", "bytes 05 04 02 01")
 
 
 def bad_starts():
@@ -265,12 +432,25 @@ def refusals():
     yield "settled-session-takes-no-edit", log(
         2, "terms", "insert x1", "settle janet", "insert x2", "withdraw x1",
         "arrange 2 1", "verdict janet", "weigh janet 2 1", "settle janet",
-        "insert x1^4096", "arrange 9", "verdict 3", "weigh 0 9", "settle 3",
+        "insert x1^4096", "arrange 9", "verdict 4", "weigh 0 9", "settle 4",
         "locate x1", "reopen", "reopen", "insert x2")
+    yield "session-settled-by-thomas-takes-no-edit", log(
+        2, "terms", "insert x1", "settle thomas", "insert x2",
+        "withdraw x1", "verdict thomas", "verdict 4", "weigh thomas 9",
+        "weigh 4 2 1", "settle thomas", "settle 4", "settle 0",
+        "settle 255", "locate x1", "reopen", "settle 4", "verdict thomas")
     yield "bad-division-bytes", log(
-        2, "terms", "verdict 0", "verdict 3", "verdict 255", "weigh 0 1 2",
-        "weigh 3 9 9", "weigh 3 2 1", "settle 0", "settle 255", "insert x1",
-        "verdict 3", "weigh 4 2 1", "settle 128", "settle janet")
+        2, "terms", "verdict 0", "verdict 4", "verdict 255", "weigh 0 1 2",
+        "weigh 4 9 9", "weigh 4 2 1", "settle 0", "settle 255", "insert x1",
+        "verdict 4", "weigh 5 2 1", "settle 128", "settle janet")
+    yield "division-bytes-around-those-of-divisions", log(
+        2, "terms", "insert x1", *(
+            command for byte in (0, 1, 2, 3, 4, 5, 7, 127, 128, 129, 130,
+                                 131, 132, 253, 254, 255)
+            for command in (f"verdict {byte}", f"weigh {byte} 2 1",
+                            f"weigh {byte} 1 1")),
+        *(f"settle {byte}" for byte in (0, 4, 128, 131, 255, 3)),
+        "locate x1^2 x2")
     yield "elements-not-admitted", log(
         2, "terms", "insert d1 x1", "insert d255 1", "insert x1^4096",
         "insert x2^65535", "insert x3", "insert x8^65535", "insert x3^256",
@@ -295,7 +475,7 @@ def refusals():
         *(f"weigh janet {b}" for b in bad), "arrange 3 1 2",
         "weigh janet 2 3 1")
     yield "no-ordering-of-no-rows", log(
-        2, "terms", "weigh janet 1 1", "weigh janet 1 2", "weigh 3 1 1",
+        2, "terms", "weigh janet 1 1", "weigh janet 1 2", "weigh 4 1 1",
         "arrange 1", "arrange 2 1")
     yield "lists-of-eight", log(
         8, "terms", "arrange 8 7 6 5 4 3 2 1", "arrange 8 7 6 5 4 3 2 2",
@@ -306,6 +486,21 @@ def refusals():
         "weigh janet 4 3 2 1", "settle janet", "settle janet-like",
         "insert d3 x1", "withdraw d3 x1", "verdict janet",
         "weigh janet-like 1 2 3 4", "settle janet")
+    yield "no-rows-by-thomas", log(
+        4, "derivatives", "verdict thomas", "weigh thomas 4 3 2 1",
+        "weigh thomas 4 3 2", "settle thomas", "insert d3 x1",
+        "withdraw d3 x1", "verdict thomas", "weigh thomas 1 2 3 4",
+        "settle thomas")
+    yield "no-ordering-by-thomas", log(
+        3, "terms", "insert x1 x2^3", "insert x1^3 x2", "settle thomas",
+        "insert x1^3 x2^3", "settle thomas", "insert x1^2 x2^3",
+        "insert x1^3 x2^2", "settle thomas", "locate x1^2 x2^9 x3",
+        "locate x1^2 x2^2", "reopen", "withdraw x1^3 x2^3", "settle thomas")
+    yield "no-cone-by-thomas", log(
+        2, "derivatives", "insert d1 x1^2", "insert d1 x1^2 x2",
+        "insert d3 x2", "settle thomas", "locate d1 x1", "locate d1 x2^9",
+        "locate d2 x1^2", "locate d3 x1^9", "locate d3 x1^9 x2",
+        "locate d1 x1^9 x2^9", "locate d1 x1^3")
     yield "already-a-row", log(
         2, "terms", "insert x1 x2", "insert x2 x1", "insert x1", "insert 1",
         "insert x1", "insert 1", "withdraw x1", "insert x1", "insert x1")
@@ -361,7 +556,7 @@ def longest_inputs():
 
 def known_sets():
     """Known sets of the field, under their ordering and, for few variables,
-    under all; settled by both divisions."""
+    under all; settled by each division."""
     for example in known.KNOWN:
         n, rows = example.n, example.rows
         own = " ".join(map(str, example.ordering))
@@ -372,10 +567,11 @@ def known_sets():
         locates += [f"locate {times(rows[0], n, 65000)}", "locate 1",
                     f"locate {times('1', n, 1)}"]
         commands = inserts(rows)
-        for division in ("janet", "janet-like"):
+        for division in makelog.DIVISIONS:
             commands += [f"weigh {division} {o}" for o in weighed]
-        commands += [f"arrange {own}", "verdict janet", "verdict janet-like"]
-        for division in ("janet", "janet-like"):
+        commands += [f"arrange {own}"]
+        commands += [f"verdict {division}" for division in makelog.DIVISIONS]
+        for division in makelog.DIVISIONS:
             # Where no ordering serves, the session stays open and takes
             # no locate; asking once is enough then.
             granted = sheetlog.Rows(
@@ -419,10 +615,9 @@ def seeded():
 
 def all_logs():
     return list(itertools.chain(
-        worked_sets(), near_misses(), edge_cases(), long_searches(),
-        bad_starts(),
-        all_codes_cut(), refusals(), longest_inputs(), known_sets(),
-        shipped(), seeded()))
+        worked_sets(), set_c(), near_misses(), thomas(), edge_cases(),
+        long_searches(), bad_starts(), all_codes_cut(), refusals(),
+        longest_inputs(), known_sets(), shipped(), seeded()))
 
 
 def main():
