@@ -1,7 +1,7 @@
 // What the requests on a stored sheet are answered, line by line.
 use crate::stored::*;
 use commands::element_of;
-use divisions::{Janet, JanetLike};
+use divisions::{Janet, JanetLike, Thomas};
 use elements::Kind;
 use orderings::refusals::Refusal;
 use sheets::answers::*;
@@ -114,7 +114,7 @@ fn tell_edit(rt: &HostRuntime, edit: Result<(), Refusal>) -> io::Result<()> {
 }
 
 // A line for a place: for each variable from one to another the number of the bar, with a star
-// where one follows it, and the limits by Janet and by Janet-like.
+// where one follows it, and the limits by Janet, by Janet-like and by Thomas.
 fn tell_row<E: Kind>(
     rt: &HostRuntime,
     sheet: &OpenSheet<E>,
@@ -129,6 +129,7 @@ fn tell_row<E: Kind>(
         tell_bar(rt, sheet.bar(place, variable))?;
         tell_limit(rt, sheet.limit(&Janet, place, variable))?;
         tell_limit(rt, sheet.limit(&JanetLike, place, variable))?;
+        tell_limit(rt, sheet.limit(&Thomas, place, variable))?;
     }
     println!(rt)
 }
