@@ -1,30 +1,30 @@
 // Calls on a sheet, told in words with what is replied.
 use crate::page::Page;
-use divisions::{Janet, JanetLike, OneOf};
+use divisions::{Janet, JanetLike, NumberedDivision, OneOf, Thomas};
 use elements::{Element, PlainTerm, times_power};
 use lines::written::{Listed, Monomial};
 use runs::requests::*;
 use runs::stepping::step;
 use sheets::answers::*;
 
-/// Either of the two divisions: the calls of one run can bring both.
-pub(crate) type Either = OneOf<Janet, JanetLike>;
-
 /// Janet division, as the tour hands it on.
-pub(crate) const JANET: Either = OneOf::First(Janet);
+pub(crate) const JANET: NumberedDivision = OneOf::First(Janet);
 
 /// Janet-like division, as the tour hands it on.
-pub(crate) const JANET_LIKE: Either = OneOf::Second(JanetLike);
+pub(crate) const JANET_LIKE: NumberedDivision = OneOf::Second(OneOf::First(JanetLike));
 
-/// A call of the tour.
-pub(crate) type Call<'a> = Request<'a, PlainTerm, Either>;
+/// Thomas division, as the tour hands it on.
+pub(crate) const THOMAS: NumberedDivision = OneOf::Second(OneOf::Second(Thomas));
+
+/// A call of the tour: the calls of one run can bring all three divisions.
+pub(crate) type Call<'a> = Request<'a, PlainTerm, NumberedDivision>;
 
 /// Performs each call on the sheet, and tells it with its reply.
 pub(crate) fn perform(
     page: &Page,
-    start: Sheet<PlainTerm, Either>,
+    start: Sheet<PlainTerm, NumberedDivision>,
     calls: &[Call<'_>],
-) -> Sheet<PlainTerm, Either> {
+) -> Sheet<PlainTerm, NumberedDivision> {
     let mut sheet = start;
     for call in calls {
         let (next, reply) = step(sheet, call);
@@ -36,10 +36,11 @@ pub(crate) fn perform(
 }
 
 /// The division's name.
-pub(crate) fn name(division: &Either) -> &'static str {
+pub(crate) fn name(division: &NumberedDivision) -> &'static str {
     match division {
         OneOf::First(_) => "Janet",
-        OneOf::Second(_) => "Janet-like",
+        OneOf::Second(OneOf::First(_)) => "Janet-like",
+        OneOf::Second(OneOf::Second(_)) => "Thomas",
     }
 }
 

@@ -31,10 +31,12 @@ fn main(rt: HostRuntime) -> io::Result<()> {
     let heap = rt.alloc();
     let first = parts_for(heap, 2, 4)?;
     let second = parts_for(heap, 2, 2)?;
+    let third = parts_for(heap, 2, 3)?;
     let page = Page::new(rt);
     let set = [term(3, 0), term(1, 1), term(0, 2)];
     terms::tell(&page, &set);
     sheet::tell(&page, first, &set);
     sheet::tell_run(&page, second);
+    sheet::tell_run_by_thomas(&page, third);
     page.end()
 }

@@ -7,11 +7,12 @@ use barcode::bar_code::BarCode;
 use cones::judging::limits_by;
 use cones::limited_rows::LimitedRows;
 use cones::tables::RowLimits;
+use divisions::NumberedDivision;
 use elements::PlainTerm;
 use lines::written::Listed;
 
 /// The prefixes that are tested, each live or dead, up to the first ordering that serves.
-pub(crate) fn tell(page: &Page, rows: &[PlainTerm; 3], division: &Either) {
+pub(crate) fn tell(page: &Page, rows: &[PlainTerm; 3], division: &NumberedDivision) {
     println!(page; "  by {}:", name(division));
     for order in [UP, DOWN] {
         let bar_code = BarCode::new(rows, &order);
@@ -26,7 +27,7 @@ pub(crate) fn tell(page: &Page, rows: &[PlainTerm; 3], division: &Either) {
 // A prefix is live where by the limits of its variables alone there is no shortfall.
 fn tell_prefix(
     page: &Page,
-    division: &Either,
+    division: &NumberedDivision,
     bar_code: &BarCode<PlainTerm>,
     prefix: &[u8],
 ) -> bool {
@@ -44,7 +45,7 @@ fn tell_prefix(
 
 // The limits that the division sets for the variables of a prefix, and none for any other.
 fn limits_of_prefix(
-    division: &Either,
+    division: &NumberedDivision,
     bar_code: &BarCode<PlainTerm>,
     prefix: &[u8],
 ) -> [RowLimits; 64] {

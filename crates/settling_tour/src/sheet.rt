@@ -1,7 +1,8 @@
-// A sheet from its opening to its settling, and a run of calls on another.
+// A sheet from its opening to its settling, and runs of calls on others.
 use crate::calls::*;
 use crate::page::Page;
 use crate::{DOWN, UP, bars, prefixes, term};
+use divisions::NumberedDivision;
 use elements::PlainTerm;
 use runs::replaying::replay;
 use runs::requests::*;
@@ -21,6 +22,7 @@ pub(crate) fn tell(page: &Page, parts: Parts<PlainTerm>, set: &[PlainTerm; 3]) {
             );
             prefixes::tell(page, set, &JANET);
             prefixes::tell(page, set, &JANET_LIKE);
+            prefixes::tell(page, set, &THOMAS);
             tell_settling(page, weighed);
         }
         Err(Denied { back: _, why }) => page.refusal(why),
@@ -30,9 +32,9 @@ pub(crate) fn tell(page: &Page, parts: Parts<PlainTerm>, set: &[PlainTerm; 3]) {
 // Inserts a term too many and withdraws it, so that the set is left.
 fn tell_edits(
     page: &Page,
-    sheet: Sheet<PlainTerm, Either>,
+    sheet: Sheet<PlainTerm, NumberedDivision>,
     set: &[PlainTerm; 3],
-) -> Sheet<PlainTerm, Either> {
+) -> Sheet<PlainTerm, NumberedDivision> {
     let [a, b, c] = *set;
     let other = term(0, 1);
     println!(page);
@@ -51,7 +53,10 @@ fn tell_edits(
     perform(page, sheet, &calls)
 }
 
-fn tell_verdicts(page: &Page, sheet: Sheet<PlainTerm, Either>) -> Sheet<PlainTerm, Either> {
+fn tell_verdicts(
+    page: &Page,
+    sheet: Sheet<PlainTerm, NumberedDivision>,
+) -> Sheet<PlainTerm, NumberedDivision> {
     tell_bars(page, &sheet);
     println!(page);
     println!(page; "The same sheet:");
@@ -62,20 +67,22 @@ fn tell_verdicts(page: &Page, sheet: Sheet<PlainTerm, Either>) -> Sheet<PlainTer
     let calls = [
         Request::Weigh(JANET, &UP),
         Request::Weigh(JANET_LIKE, &UP),
+        Request::Weigh(THOMAS, &UP),
         Request::Weigh(JANET, &DOWN),
         Request::Weigh(JANET_LIKE, &DOWN),
+        Request::Weigh(THOMAS, &DOWN),
     ];
     perform(page, arranged, &calls)
 }
 
-fn tell_bars(page: &Page, sheet: &Sheet<PlainTerm, Either>) {
+fn tell_bars(page: &Page, sheet: &Sheet<PlainTerm, NumberedDivision>) {
     if let Sheet::Open(open) = sheet {
         bars::tell(page, open);
     }
 }
 
 // Settles the sheet by one division and, reopened, by the other.
-fn tell_settling(page: &Page, sheet: Sheet<PlainTerm, Either>) {
+fn tell_settling(page: &Page, sheet: Sheet<PlainTerm, NumberedDivision>) {
     println!(page);
     println!(page;
         "The sheet is settled by the first ordering that serves, and then takes no edits:"
@@ -108,14 +115,42 @@ pub(crate) fn tell_run(page: &Page, parts: Parts<PlainTerm>) {
         Request::Settle(JANET_LIKE),
         Request::Locate(term(1, 5)),
     ];
-    let mut exchanges = calls.map(Exchange::from);
-    match replay(parts, &mut exchanges) {
-        Ok(_) => tell_replies(page, &exchanges),
+    perform_run(page, parts, &mut calls.map(Exchange::from));
+}
+
+/// Another, by Thomas, for which the ordering plays no part.
+pub(crate) fn tell_run_by_thomas(page: &Page, parts: Parts<PlainTerm>) {
+    println!(page);
+    println!(page;
+        "Another run: x1, x2 and x1 x2 are inserted, weighed by Thomas under 1,2 and under 2,1,"
+    );
+    println!(page; "settled by Thomas, and x1^4 x2^3, x1^4 and 1 are located. The replies:");
+    let calls = [
+        Request::Insert(term(1, 0)),
+        Request::Insert(term(0, 1)),
+        Request::Insert(term(1, 1)),
+        Request::Weigh(THOMAS, &UP),
+        Request::Weigh(THOMAS, &DOWN),
+        Request::Settle(THOMAS),
+        Request::Locate(term(4, 3)),
+        Request::Locate(term(4, 0)),
+        Request::Locate(term(0, 0)),
+    ];
+    perform_run(page, parts, &mut calls.map(Exchange::from));
+}
+
+fn perform_run(
+    page: &Page,
+    parts: Parts<PlainTerm>,
+    exchanges: &mut [Exchange<PlainTerm, NumberedDivision>],
+) {
+    match replay(parts, exchanges) {
+        Ok(_) => tell_replies(page, exchanges),
         Err(denied) => page.refusal(denied.why),
     }
 }
 
-fn tell_replies(page: &Page, exchanges: &[Exchange<PlainTerm, Either>]) {
+fn tell_replies(page: &Page, exchanges: &[Exchange<PlainTerm, NumberedDivision>]) {
     for reply in exchanges.iter().filter_map(|exchange| exchange.reply) {
         print!(page; "  ");
         tell_reply(page, &reply);

@@ -1,6 +1,6 @@
-// The Bar Code of the sheet's rows, and the limits of two divisions.
+// The Bar Code of the sheet's rows, and the limits of three divisions.
 use crate::sheet::tell_refusal;
-use divisions::{Division, Janet, JanetLike};
+use divisions::{Division, Janet, JanetLike, Thomas};
 use elements::{Element, PlainTerm};
 use lines::written::{Listed, Monomial};
 use sheets::answers::*;
@@ -16,7 +16,7 @@ pub(crate) fn tell(rt: &HostRuntime, sheet: &OpenSheet<PlainTerm>) -> io::Result
         header,
     } = &sheet.parts;
     let listed = Listed(order);
-    println!(rt; "Its Bar Code under {listed}; a star stands for a variable without a limit:")?;
+    println!(rt; "Its Bar Code under {listed}; at a star Janet and Janet-like set no limit:")?;
     for (place, row) in table.iter().take(header.rows as usize).enumerate() {
         println!(rt; "  {}", Monomial(&row.exponents()))?;
         for variable in order.iter().take(header.variables as usize) {
@@ -32,17 +32,25 @@ fn tell_bar(
     place: usize,
     variable: u8,
 ) -> io::Result<()> {
+    let thomas = limit(sheet, &Thomas, place, variable);
     match sheet.bar(place, variable) {
-        Ok(Bar { number, star }) => {
-            if star {
-                println!(rt; "    over bar {number} of x{variable} *")
-            } else {
-                let janet = limit(sheet, &Janet, place, variable);
-                let janet_like = limit(sheet, &JanetLike, place, variable);
-                println!(rt;
-                    "    over bar {number} of x{variable}, limit {janet} by Janet and {janet_like} by Janet-like"
-                )
-            }
+        Ok(Bar { number, star: true }) if thomas == 0 => {
+            println!(rt; "    over bar {number} of x{variable} *")
+        }
+        Ok(Bar { number, star: true }) => {
+            println!(rt; "    over bar {number} of x{variable} *, limit {thomas} by Thomas")
+        }
+        Ok(
+            Bar {
+                number,
+                star: false,
+            },
+        ) => {
+            let janet = limit(sheet, &Janet, place, variable);
+            let janet_like = limit(sheet, &JanetLike, place, variable);
+            println!(rt;
+                "    over bar {number} of x{variable}, limit {janet} by Janet, {janet_like} by Janet-like and {thomas} by Thomas"
+            )
         }
         Err(refusal) => tell_refusal(rt, refusal),
     }

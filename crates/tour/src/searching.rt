@@ -4,7 +4,7 @@ use barcode::bar_code::BarCode;
 use cones::judging::limits_by;
 use cones::limited_rows::LimitedRows;
 use cones::tables::RowLimits;
-use divisions::{Division, Janet, JanetLike};
+use divisions::{Division, Janet, JanetLike, Thomas};
 use elements::PlainTerm;
 use lines::written::Listed;
 use search::searching::{Found, search};
@@ -14,7 +14,8 @@ use std::io;
 pub(crate) fn tell(rt: &HostRuntime, rows: &[PlainTerm]) -> io::Result<()> {
     println!(rt; "Which ordering makes the rows complete?")?;
     tell_search(rt, rows, "Janet", &Janet)?;
-    tell_search(rt, rows, "Janet-like", &JanetLike)
+    tell_search(rt, rows, "Janet-like", &JanetLike)?;
+    tell_search(rt, rows, "Thomas", &Thomas)
 }
 
 // The tested prefixes, live or dead, and what is found. A prefix is the first entries of an

@@ -1,7 +1,7 @@
-// Whether the sheet's rows are complete, by two divisions under two orderings.
+// Whether the sheet's rows are complete, by three divisions under two orderings.
 use crate::sheet::tell_refusal;
 use crate::{DOWN, UP};
-use divisions::{Division, Janet, JanetLike};
+use divisions::{Division, Janet, JanetLike, Thomas};
 use elements::{Element, PlainTerm, times_power};
 use lines::written::{Listed, Monomial};
 use sheets::answers::*;
@@ -14,6 +14,7 @@ pub(crate) fn tell(rt: &HostRuntime, sheet: &OpenSheet<PlainTerm>) -> io::Result
     for order in [UP, DOWN] {
         tell_verdict(rt, sheet, "Janet", &Janet, &order)?;
         tell_verdict(rt, sheet, "Janet-like", &JanetLike, &order)?;
+        tell_verdict(rt, sheet, "Thomas", &Thomas, &order)?;
     }
     Ok(())
 }

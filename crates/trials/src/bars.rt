@@ -1,8 +1,8 @@
 // Bars, stars, gaps and limits: the worked tables of the field.
 use crate::making::*;
 use barcode::bar_code::BarCode;
-use divisions::{Division, Janet, JanetLike, numbered};
-use elements::{Kind, PlainTerm};
+use divisions::{Division, Janet, JanetLike, Thomas, numbered};
+use elements::{Element, Kind, PlainTerm};
 use std::test::Fail;
 
 // The gaps of variables 1, 2 and 3 at a place, 0 for none.
@@ -98,12 +98,53 @@ fn limits_by_number(rt: HostRuntime) -> Result<(), Fail> {
     assert_eq!(rt; Janet.limit(&bar_code, 1, 2), Some(1));
     assert_eq!(rt; JanetLike.limit(&bar_code, 1, 2), Some(3));
     assert_eq!(rt; Janet.limit(&bar_code, 2, 2), None);
-    assert!(rt; numbered(0).is_none() && numbered(3).is_none());
+    assert!(rt; numbered(0).is_none() && numbered(4).is_none() && numbered(255).is_none());
     let first = numbered(1).ok_or("no division has the number 1")?;
     let second = numbered(2).ok_or("no division has the number 2")?;
+    let third = numbered(3).ok_or("no division has the number 3")?;
     assert_eq!(rt; first.limit(&bar_code, 3, 3), Some(1));
     assert_eq!(rt; second.limit(&bar_code, 3, 3), Some(3));
+    assert_eq!(rt; third.limit(&bar_code, 3, 3), Some(1));
+    // at a star of Janet and Janet-like a row that parts from this one earlier is greater
+    assert_eq!(rt; first.limit(&bar_code, 3, 1), None);
+    assert_eq!(rt; second.limit(&bar_code, 3, 1), None);
+    assert_eq!(rt; third.limit(&bar_code, 3, 1), Some(1));
     Ok(())
+}
+
+// The limits of variables 1, 2 and 3 by Thomas at a place, 0 for none.
+fn by_thomas<E: Element>(bar_code: &BarCode<E>, place: usize) -> [u16; 3] {
+    [1, 2, 3].map(|variable| Thomas.limit(bar_code, place, variable).unwrap_or(0))
+}
+
+#[test]
+fn limits_by_thomas_of_six_terms(rt: HostRuntime) {
+    let rows = six();
+    for order in [FALLING, [1, 2, 3, 0, 0, 0, 0, 0]] {
+        let bar_code = BarCode::new(&rows, &order);
+        assert_eq!(rt; by_thomas(&bar_code, 0), [0, 1, 1]);
+        assert_eq!(rt; by_thomas(&bar_code, 1), [1, 1, 1]);
+        assert_eq!(rt; by_thomas(&bar_code, 2), [1, 0, 1]);
+        assert_eq!(rt; by_thomas(&bar_code, 3), [1, 1, 1]);
+        assert_eq!(rt; by_thomas(&bar_code, 4), [1, 1, 1]);
+        assert_eq!(rt; by_thomas(&bar_code, 5), [1, 1, 0]);
+        assert_eq!(rt; by_thomas(&bar_code, 6), [0, 0, 0]);
+    }
+}
+
+#[test]
+fn limits_by_thomas_of_each_family(rt: HostRuntime) {
+    let rows = [
+        derivative(1, 2, 0),
+        derivative(2, 3, 2),
+        derivative(1, 2, 1),
+        derivative(2, 4, 2),
+    ];
+    let bar_code = BarCode::new(&rows, &[1, 2, 0, 0, 0, 0, 0, 0]);
+    assert_eq!(rt; by_thomas(&bar_code, 0), [0, 1, 0]);
+    assert_eq!(rt; by_thomas(&bar_code, 1), [1, 0, 0]);
+    assert_eq!(rt; by_thomas(&bar_code, 2), [0, 0, 0]);
+    assert_eq!(rt; by_thomas(&bar_code, 3), [0, 0, 0]);
 }
 
 #[test]

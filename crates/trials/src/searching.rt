@@ -1,6 +1,6 @@
 // The search on the worked sets.
 use crate::making::*;
-use divisions::{Division, Janet, JanetLike};
+use divisions::{Division, Janet, JanetLike, Thomas};
 use elements::Kind;
 use search::searching::{Found, search};
 
@@ -43,6 +43,17 @@ fn two_terms(rt: HostRuntime) {
     let families = [derivative(1, 2, 0), derivative(2, 0, 2)];
     assert_eq!(rt;
         found(&Janet, &families, 2),
+        (2, Some([1, 2, 0, 0, 0, 0, 0, 0]))
+    );
+}
+
+#[test]
+fn terms_and_their_product(rt: HostRuntime) {
+    let less = [term(1, 0, 0), term(0, 1, 0)];
+    assert_eq!(rt; found(&Thomas, &less, 2), (4, None));
+    let more = [term(1, 0, 0), term(0, 1, 0), term(1, 1, 0)];
+    assert_eq!(rt;
+        found(&Thomas, &more, 2),
         (2, Some([1, 2, 0, 0, 0, 0, 0, 0]))
     );
 }

@@ -3,7 +3,7 @@ use crate::making::*;
 use barcode::bar_code::BarCode;
 use cones::judging::limits_by;
 use cones::limited_rows::LimitedRows;
-use divisions::{Janet, JanetLike};
+use divisions::{Janet, JanetLike, Thomas};
 use elements::PlainTerm;
 use orderings::refusals::Refusal;
 use sheets::answers::*;
@@ -75,6 +75,17 @@ fn a_set_and_its_completion(rt: HostRuntime) -> Result<(), Fail> {
         &[term(3, 0, 0), term(0, 3, 0), term(4, 1, 1), term(0, 0, 2)],
     )?;
     assert_eq!(rt; four.weigh(&Janet, &FALLING), Ok(short(term(3, 0, 0), 2)));
+    Ok(())
+}
+
+#[test]
+fn a_set_complete_by_thomas(rt: HostRuntime) -> Result<(), Fail> {
+    let first = term(1, 0, 0);
+    let mut sheet = sheet(&rt, &[first, term(0, 1, 0)])?;
+    assert_eq!(rt; sheet.weigh(&Thomas, &FALLING), Ok(short(first, 2)));
+    assert!(rt; sheet.insert(term(1, 1, 0)).is_ok());
+    assert_eq!(rt; sheet.weigh(&Thomas, &FALLING), Ok(complete(first)));
+    assert_eq!(rt; sheet.verdict(&Thomas), Ok(complete(first)));
     Ok(())
 }
 
