@@ -107,7 +107,7 @@ impl Handed {
                 answers.len(),
             )
         };
-        assert_eq!(made, 1, "the engine found no memory");
+        assert_eq!(made, 1, "the engine found no memory, or no such division");
     }
 
     /// Settled so many times, and opened again in between; all answers have to be the same.
@@ -160,7 +160,7 @@ impl Handed {
                 answers.len(),
             )
         };
-        assert_eq!(made, 1, "the engine found no memory");
+        assert_eq!(made, 1, "the engine found no memory, or no such division");
         answers
             .iter()
             .map(|&answer| match answer {

@@ -13,7 +13,7 @@ use engine::Handed;
 use plain::{Division, Found, Row, Sheet, Test};
 use sets::{Kind, Random};
 
-const DIVISIONS: [Division; 2] = [Division::Janet, Division::JanetLike];
+const DIVISIONS: [Division; 3] = [Division::Janet, Division::JanetLike, Division::Thomas];
 
 /// How long one call of each takes: the shortest of seven measurements of some milliseconds each, taken in turn; of two of a call that takes long.
 fn time<const N: usize>(mut calls: [&mut dyn FnMut(); N]) -> [Duration; N] {
@@ -170,20 +170,25 @@ fn measure(rows: &[Row], n: usize, division: Division) -> Case {
     }
 }
 
-/// Compares the answers on many small seeded sets, half of them completed under an ordering.
-fn compare_answers(count: u64) {
-    let (mut searches, mut answered, mut deeper) = (0, 0, 0);
-    for seed in 1..=count {
+/// Compares the answers on so many small seeded sets, by each division: half of them completed by Janet under an ordering, a quarter by Thomas.
+fn compare_answers(sets: u64) {
+    let (mut answered, mut deeper) = ([0; DIVISIONS.len()], [0; DIVISIONS.len()]);
+    for seed in 1..=sets {
         let mut random = Random::new(seed);
         let n = 1 + random.below(5);
         let largest = 1 + random.below(4) as u16;
         let room = (largest as usize + 1).pow(n as u32);
         let start = 1 + random.below(room.min(if n == 5 { 8 } else { 12 }));
         let mut rows = sets::seeded(&mut random, start, n, largest);
-        if random.below(2) == 0 {
+        let completing = match random.below(4) {
+            0 | 2 => Some(Division::Janet),
+            1 => Some(Division::Thomas),
+            _ => None,
+        };
+        if let Some(completing) = completing {
             let mut order: Vec<usize> = (0..n).collect();
             random.shuffle(&mut order);
-            if let Some(completed) = sets::completed(rows.clone(), n, &order, 40) {
+            if let Some(completed) = sets::completed(completing, rows.clone(), n, &order, 40) {
                 rows = completed;
                 // sometimes one row fewer, so that what is missing lies deep
                 if random.below(2) == 0 && rows.len() > 1 {
@@ -191,17 +196,20 @@ fn compare_answers(count: u64) {
                 }
             }
         }
-        for division in DIVISIONS {
+        for (k, division) in DIVISIONS.into_iter().enumerate() {
             let targets = targets(&mut random, &rows, n, 8);
             let found = agree(&rows, n, division, &targets);
-            searches += 1;
-            answered += found.ordering.is_some() as u32;
-            deeper += (found.tested > n as u32) as u32;
+            answered[k] += found.ordering.is_some() as u32;
+            deeper[k] += (found.tested > n as u32) as u32;
         }
     }
-    println!(
-        "All ways gave the same answers on {searches} searches of seeded sets: {answered} with an ordering, {deeper} that tested more than n prefixes."
-    );
+    println!("All ways gave the same answers on {sets} seeded sets, searched by each division.");
+    for (k, division) in DIVISIONS.iter().enumerate() {
+        println!(
+            "By {division:?}: {} with an ordering, {} that tested more than n prefixes.",
+            answered[k], deeper[k]
+        );
+    }
 }
 
 fn main() {
@@ -222,7 +230,7 @@ fn main() {
     let mut worst: [(f64, String); 3] = Default::default();
     let mut longest = (Duration::ZERO, String::new());
     for kind in Kind::ALL {
-        for division in DIVISIONS {
+        for division in DIVISIONS.into_iter().filter(|&division| kind.is_for(division)) {
             for row_count in [8, 32, 64] {
                 for n in [3, 5, 8] {
                     let rows = kind.rows(division, row_count, n);

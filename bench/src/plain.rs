@@ -27,6 +27,7 @@ impl Row {
 pub enum Division {
     Janet,
     JanetLike,
+    Thomas,
 }
 
 impl Division {
@@ -34,22 +35,25 @@ impl Division {
         match self {
             Division::Janet => 1,
             Division::JanetLike => 2,
+            Division::Thomas => 3,
         }
     }
 
     /// The limit of a variable at a row, `greater` being the variables above it in the ordering.
     fn limit(self, rows: &[Row], greater: &[usize], row: &Row, variable: usize) -> Option<u16> {
+        let exceeds = |other: &Row| {
+            other.family == row.family && other.exponents[variable] > row.exponents[variable]
+        };
         let above = rows
             .iter()
             .filter(|other| {
-                other.family == row.family
-                    && other.exponents[variable] > row.exponents[variable]
-                    && greater.iter().all(|&g| other.exponents[g] == row.exponents[g])
+                exceeds(other) && greater.iter().all(|&g| other.exponents[g] == row.exponents[g])
             })
             .map(|other| other.exponents[variable] - row.exponents[variable]);
         match self {
             Division::Janet => above.map(|_| 1).next(),
             Division::JanetLike => above.min(),
+            Division::Thomas => rows.iter().any(exceeds).then_some(1),
         }
     }
 }

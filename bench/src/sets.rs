@@ -69,14 +69,22 @@ impl Kind {
         }
     }
 
+    /// By Thomas the ordering plays no part: the first ordering serves or none does, so that no answer comes late.
+    pub fn is_for(self, division: Division) -> bool {
+        self != Kind::Late || division != Division::Thomas
+    }
+
     pub fn rows(self, division: Division, rows: usize, n: usize) -> Vec<Row> {
         match self {
             Kind::Seeded => {
                 let largest = if n == 3 { 5 } else { 3 };
                 seeded(&mut Random::new(rows as u64 * 100 + n as u64), rows, n, largest)
             }
-            Kind::Served => served(rows, n),
+            Kind::Served if division == Division::Thomas => served(division, rows, n),
+            // Janet-like completes what Janet completes
+            Kind::Served => served(Division::Janet, rows, n),
             Kind::Late => deep(division, rows, n, true),
+            Kind::Refused if division == Division::Thomas => refused_by_thomas(rows, n),
             Kind::Refused => deep(division, rows, n, false),
         }
     }
@@ -94,14 +102,20 @@ pub fn seeded(random: &mut Random, rows: usize, n: usize, largest: u16) -> Vec<R
     list
 }
 
-/// The rows with the missing products added until the ordering makes them complete by Janet, if that needs at most so many rows.
-pub fn completed(rows: Vec<Row>, n: usize, order: &[usize], most: usize) -> Option<Vec<Row>> {
+/// The rows with the missing products added until a division makes them complete under the ordering, if that needs at most so many rows.
+pub fn completed(
+    division: Division,
+    rows: Vec<Row>,
+    n: usize,
+    order: &[usize],
+    most: usize,
+) -> Option<Vec<Row>> {
     let mut sheet = Sheet {
         n,
         rows,
         order: order.to_vec(),
     };
-    while let Some(short) = sheet.verdict(Division::Janet) {
+    while let Some(short) = sheet.verdict(division) {
         if sheet.rows.len() == most {
             return None;
         }
@@ -112,8 +126,8 @@ pub fn completed(rows: Vec<Row>, n: usize, order: &[usize], most: usize) -> Opti
     Some(sheet.rows)
 }
 
-/// Exactly so many rows that are complete by Janet under a seeded ordering.
-fn served(rows: usize, n: usize) -> Vec<Row> {
+/// Exactly so many rows that are complete by a division under a seeded ordering.
+fn served(division: Division, rows: usize, n: usize) -> Vec<Row> {
     for seed in 1.. {
         let mut random = Random::new(seed);
         let mut order: Vec<usize> = (0..n).collect();
@@ -124,7 +138,7 @@ fn served(rows: usize, n: usize) -> Vec<Row> {
             continue;
         }
         let list = seeded(&mut random, start, n, largest);
-        if let Some(mut list) = completed(list, n, &order, rows) {
+        if let Some(mut list) = completed(division, list, n, &order, rows) {
             if list.len() == rows {
                 random.shuffle(&mut list);
                 return list;
@@ -149,6 +163,18 @@ fn terms(m: usize, degree: u16) -> Vec<Vec<u16>> {
         .collect()
 }
 
+/// The row W/t for a term t in the last of n variables, W being their product to the power 12.
+fn over(t: &[u16], n: usize) -> Row {
+    let mut exponents = [0; VARIABLES];
+    for (exponent, less) in exponents[n - t.len()..n].iter_mut().zip(t) {
+        *exponent = 12 - less;
+    }
+    Row {
+        family: 0,
+        exponents,
+    }
+}
+
 /// Terms in batches to be added together: those that differ in the order of their exponents alone,
 /// then those of them with the same greatest exponent, then each alone.
 fn batches(list: Vec<Vec<u16>>) -> Vec<Vec<Vec<u16>>> {
@@ -170,6 +196,55 @@ fn batches(list: Vec<Vec<u16>>) -> Vec<Vec<Vec<u16>>> {
         batches.extend(group.into_iter().map(|t| vec![t]));
     }
     batches
+}
+
+/// Rows that Thomas refuses once all prefixes are tested: W/t for a term W with large exponents and terms t.
+///
+/// Some terms are left out: 1, the variables, the first variable times each, and so on by degree, as many as the number of rows allows.
+/// The terms t are those around them: a left-out term times a variable, where that is not left out. More follow by degree if there is room.
+/// The product of a row with a limit is W/s, where s is a t or left out. Where it is left out no cone holds W/s under all variables.
+/// But s times a power of any variable is a t, and under a prefix without that variable the cone of W/t holds W/s: every shorter prefix is live.
+///
+/// The rows stand in a seeded order; by degree they take the engine less time.
+fn refused_by_thomas(rows: usize, n: usize) -> Vec<Row> {
+    let by_degree = || (0..).flat_map(|degree| terms(n, degree).into_iter().rev());
+    let mut left_out: Vec<Vec<u16>> = Vec::new();
+    let mut chosen = Vec::new();
+    for t in by_degree() {
+        left_out.push(t);
+        let around = terms_around(&left_out);
+        if around.len() > rows {
+            left_out.pop();
+            break;
+        }
+        chosen = around;
+    }
+    for t in by_degree() {
+        if chosen.len() == rows {
+            break;
+        }
+        if !left_out.contains(&t) && !chosen.contains(&t) {
+            chosen.push(t);
+        }
+    }
+    let mut list: Vec<Row> = chosen.iter().map(|t| over(t, n)).collect();
+    Random::new(1).shuffle(&mut list);
+    list
+}
+
+/// The terms that a variable times one of these gives, but for these.
+fn terms_around(list: &[Vec<u16>]) -> Vec<Vec<u16>> {
+    let mut around = Vec::new();
+    for t in list {
+        for v in 0..t.len() {
+            let mut t = t.clone();
+            t[v] += 1;
+            if !list.contains(&t) && !around.contains(&t) {
+                around.push(t);
+            }
+        }
+    }
+    around
 }
 
 /// Rows W/t for a term W with large exponents and terms t of small degree in the last m variables, where m is as large as so many rows allow.
@@ -205,16 +280,7 @@ fn deep(division: Division, rows: usize, n: usize, late: bool) -> Vec<Row> {
     let mut chosen =
         (2..=n).rev().map(base).find(|chosen| chosen.len() <= rows).expect("8 rows are enough for 2 variables");
     let m = chosen[0].len();
-    let row = |t: &Vec<u16>| {
-        let mut exponents = [0; VARIABLES];
-        for (exponent, less) in exponents[n - m..n].iter_mut().zip(t) {
-            *exponent = 12 - less;
-        }
-        Row {
-            family: 0,
-            exponents,
-        }
-    };
+    let row = |t: &Vec<u16>| over(t, n);
     let search = |chosen: &[Vec<u16>]| {
         let rows: Vec<Row> = chosen.iter().map(row).collect();
         Sheet::new(&rows, n).settle(division, Test::Newest)
